@@ -4,7 +4,7 @@ is documented, and each record that it accepts comes back.
 
     bench/compare.py OLD [NEW] [--inputs N] [--seed S] [--command WORDS] [--jobs N]
 
-A path that ends in .so is the library for C. Each command gets N inputs. Those of `check` are documents
+A path with .so in its name is the library for C. Each command gets N inputs. Those of `check` are documents
 (bench/faults.py): half of them have a group with aspects, a third have faults, and a tenth are mutated. Those of other
 commands are up to four lines, of which only the last one is spoiled. The inputs depend only on the seed, and on which
 inputs of the tests the first program accepts.
@@ -203,7 +203,7 @@ def wrong_with(program, words, jobs):
 @functools.lru_cache(None)
 def opened(path):
     """The library or the program at this path."""
-    return Library(path) if path.endswith(".so") else Program(path)
+    return Library(path) if ".so" in path.rpartition("/")[2] else Program(path)
 
 
 def batch(said, words, first):

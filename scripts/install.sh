@@ -2,15 +2,15 @@
 # Installs both commands with their manual pages into PREFIX, by default /usr/local:   install.sh [PREFIX]
 #
 # PREFIX/bin/balisecheck is one file that needs only the C library. In a clone it is the program that ./balisecheck would
-# run. PREFIX/bin/balisekit needs python3; its files are in PREFIX/share/balisecheck. PREFIX/lib/balisecheck has the library
-# for C that was stored with the program, and its header.
+# run. PREFIX/bin/balisekit needs python3; its files are in PREFIX/share/balisecheck. The library for C that was stored with
+# the program is in PREFIX/lib, with its files for pkg-config and CMake, and its header in PREFIX/include.
 set -eu
 unset CDPATH
 
 top=$(dirname "$(readlink -f -- "$0")")
 prefix=${1:-/usr/local}
 kit=$prefix/share/balisecheck
-library=$prefix/lib/balisecheck
+library=$prefix/lib
 manual=$prefix/share/man/man1
 # A release has this script, the program and both manual pages at its top. A clone has the script in scripts/.
 program=$top/balisecheck
@@ -23,6 +23,12 @@ if [ ! -e "$program" ]; then
     pages=$top/man
 fi
 
+# where FILE: the file with the place and the version of the library.
+where() {
+    root=$(cd "$prefix" && pwd | sed 's/[&|\\]/\\&/g')
+    sed "s|@PREFIX@|$root|; s/@VERSION@/$(sed -n 's/^version //p' "$about")/" "$1"
+}
+
 # (the start script of a clone has tried its program)
 if ! met=$("$program" decode </dev/null 2>&1); then
     needs=$(sed -n 's/^glibc \(.*\)/it needs x86-64-v2 and glibc \1 or later, and /p' "$about")
@@ -31,7 +37,7 @@ if ! met=$("$program" decode </dev/null 2>&1); then
     exit 3
 fi
 
-for folder in "$prefix/bin" "$kit" "$library" "$manual"; do
+for folder in "$prefix/bin" "$kit" "$library/pkgconfig" "$library/cmake/balisecheck" "$prefix/include" "$manual"; do
     lack=$(mkdir -p "$folder" 2>&1) && [ -w "$folder" ] && continue
     echo "install: not installed, because $folder cannot be written${lack:+ ($lack)}." >&2
     echo "install: to install only for yourself: $0 ~/.local" >&2
@@ -47,12 +53,19 @@ cp -r "$top/companion/src/balisekit" "$kit/companion/src"
 find "$kit" -name __pycache__ -prune -exec rm -r {} +
 install -m 644 "$about" "$kit/dist/x86_64-linux/ABOUT"
 install -m 644 "$top/dist/RELEASES" "$kit/dist/RELEASES"
-rm -rf "$library"
+# (earlier versions had the library in a folder of its own)
+rm -rf "$library/balisecheck" "$kit"/dist/x86_64-linux/libbalisecheck.so "$library"/libbalisecheck.* "$prefix/include/balisecheck.h" \
+    "$library/pkgconfig/balisecheck.pc" "$library"/cmake/balisecheck/*
 if grep -q '^library ' "$about"; then
-    mkdir -p "$library"
-    install -m 644 "${about%/*}"/libbalisecheck.* "$top/crates/balisecheck_c/include/balisecheck.h" "$library"
-    # balisekit finds it beside ABOUT.
-    ln -sf ../../../../lib/balisecheck/libbalisecheck.so "$kit/dist/x86_64-linux/libbalisecheck.so"
+    install -m 644 "${about%/*}"/libbalisecheck.* "$library"
+    # A compiler looks for the first name. balisekit finds the library beside ABOUT.
+    ln -s libbalisecheck.so.0 "$library/libbalisecheck.so"
+    ln -sf ../../../../lib/libbalisecheck.so.0 "$kit/dist/x86_64-linux/libbalisecheck.so.0"
+    install -m 644 "$top/crates/balisecheck_c/include/balisecheck.h" "$prefix/include"
+    for file in pkgconfig/balisecheck.pc cmake/balisecheck/balisecheck-config.cmake \
+        cmake/balisecheck/balisecheck-config-version.cmake; do
+        where "$top/native/${file##*/}" | install -m 644 /dev/stdin "$library/$file"
+    done
 fi
 ln -sf ../../bin/balisecheck "$kit/balisecheck"
 ln -sf ../share/balisecheck/balisekit "$prefix/bin/balisekit"

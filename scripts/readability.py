@@ -93,13 +93,13 @@ def of_rules() -> Dict[str, Shares]:
 
 
 def paragraphs_of_rules() -> Dict[str, List[str]]:
-    """The paragraphs of the page of each rule of balisekit, by the rule's name."""
+    """The paragraphs and items of the page of each rule of balisekit, by the rule's name."""
     sys.path.insert(0, str(TOP / "companion" / "src"))
     from balisekit.present.explanations import pages
     from balisekit.rules.families import FAMILIES
 
     every = [one for family in FAMILIES.values() for one in pages(family)]
-    return {name: [*page.parts.values()] for name, page in every}
+    return {name: [part for text in page.parts.values() for part in text.split("\n")] for name, page in every}
 
 
 @lru_cache(maxsize=None)

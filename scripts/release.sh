@@ -4,8 +4,8 @@
 #     scripts/release.sh raise        writes the next version number into VERSION and each other file that has it
 #     scripts/release.sh store        stores the program, the library for C and their ABOUT in dist/x86_64-linux, and
 #                                     adds a line to dist/RELEASES
-#     scripts/release.sh              writes the release into out/release: tarball and its checksum, wheel, .deb, SPDX,
-#                                     the logs of the gate, of edits and plants, a README and SHA256SUMS
+#     scripts/release.sh              writes the release into out/release: tarball and its checksum, wheel, packages of
+#                                     Debian, SPDX, the logs of the gate, of edits and plants, a README and SHA256SUMS
 #     scripts/release.sh --try DIR    the same into an empty DIR, with the program that ./balisecheck would run, without
 #                                     logs: the names of its packages have "untested"
 #
@@ -33,7 +33,6 @@ cd "$(dirname "${BASH_SOURCE[0]}")/.."
 room=$(mktemp -d)
 trap 'rm -rf "$room"' EXIT
 dist=dist/x86_64-linux
-header=crates/balisecheck_c/include/balisecheck.h
 version=$(cat VERSION)
 # The key of --sign.
 key=
@@ -41,6 +40,8 @@ key=
 handed=(man/balisecheck.1 balisekit scripts/install.sh scripts/verify-release README.md CHANGELOG.md ERRATA.md
     LICENSE-APACHE LICENSE-MIT SECURITY.md THIRD-PARTY.md companion dist/RELEASES dist/allowed_signers docs schemas
     examples)
+# What is handed out with the library for C: its header, and how pkg-config and CMake find it.
+with_library=(crates/balisecheck_c/include native/*.pc native/*.cmake)
 # Where the number of the program stands.
 numbered=(VERSION man/balisecheck.1 crates/balisecheck/src/help.rt companion/src/balisekit/__init__.py examples/ci/*.yml)
 
@@ -70,7 +71,7 @@ is_right() {
 # has_library: fails if the library in out/ is damaged or, by LIBRARY, was built from other sources.
 has_library() {
     grep -qsx "sources $(dist/sources)" out/LIBRARY && grep -qx "archive $(sum_of out/libbalisecheck.a)" out/LIBRARY &&
-        grep -qx "library $(sum_of out/libbalisecheck.so)" out/LIBRARY ||
+        grep -qx "library $(sum_of out/libbalisecheck.so.0)" out/LIBRARY ||
         fail 'the library in out is damaged, missing or of other sources: scripts/library'
 }
 
@@ -133,7 +134,8 @@ store() {
     mkdir -p "$dist"
     cp -a dist "$before"
     install -m 755 out/balisecheck "$dist/balisecheck"
-    install -m 644 out/libbalisecheck.a out/libbalisecheck.so "$dist"
+    rm -f "$dist"/libbalisecheck.*
+    install -m 644 out/libbalisecheck.a out/libbalisecheck.so.0 "$dist"
     { papers out/balisecheck; sed 1d out/LIBRARY; } >"$dist/ABOUT"
     line="$version $(said commit "$dist") $(said sources "$dist") $(said program "$dist")"
     grep -q "^$line " dist/RELEASES || echo "$line $(date -u +%F)" >>dist/RELEASES
@@ -151,10 +153,10 @@ tree() {
     git ls-files -z -- "${handed[@]}" | tar -c --null --files-from=- --transform='s,^\(scripts\|man\)/,,' | tar -x -C "$1"
     install -m 755 "$2" "$1/balisecheck"
     install -m 644 "$3" "$1/$dist/ABOUT"
-    # The library for C and its header have the places that they have in the repository.
+    # The library for C, and what is installed with it, have the places that they have in the repository.
     if grep -q '^library ' "$3"; then
         install -m 644 "$dist"/libbalisecheck.* "$1/$dist"
-        install -D -m 644 -t "$1/${header%/*}" "$header"
+        git ls-files -z -- "${with_library[@]}" | tar -c --null --files-from=- | tar -x -C "$1"
     fi
     dist/pack/readme "$1" "$key"
     dist/pack/manual "$1"
@@ -163,7 +165,7 @@ tree() {
     sign "$1"
 }
 
-# pack TO PROGRAM PAPERS MARK: writes tarball, wheel, .deb and SPDX of the files as they stand here, with the mark in
+# pack TO PROGRAM PAPERS MARK: writes tarball, wheel, packages of Debian and SPDX of the files as they stand here, with the mark in
 # their names.
 pack() {
     local name=balisecheck-$version-x86_64-linux$4
@@ -192,7 +194,7 @@ sums() {
 }
 
 release() {
-    is_committed "${handed[@]}" VERSION dist crates.txt HANDLES crates
+    is_committed "${handed[@]}" native VERSION dist crates.txt HANDLES crates
     is_right "$dist" 'scripts/release.sh store'
     [ "$(said version "$dist")" = "$version" ] || fail "the stored program is not $version: scripts/release.sh store"
     is_passed out/gate.log .ci/run

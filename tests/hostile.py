@@ -85,8 +85,22 @@ class Library:
         whole = "-Wl,-Bsymbolic", "-Wl,--whole-archive", path, "-Wl,--no-whole-archive"
         self.calls = ctypes.CDLL(shim(*whole) if self.has_shim else str(path))
 
+    def version(self):
+        """What the library says of its version."""
+        self.calls.balisecheck_version.restype = ctypes.c_char_p
+        return self.calls.balisecheck_version().decode()
+
+    def length(self, name, data):
+        """The answer of a call for the length of a text, with the length as standard output. Status 3 has none."""
+        length = ctypes.c_size_t(1 << 60)
+        status = getattr(self.calls, f"balisecheck_{name}")(data, ctypes.c_size_t(len(data)), ctypes.byref(length))
+        assert status != 3 or length.value == 0, (name, data)
+        return Answer(status, str(length.value) if status != 3 else "", "")
+
     def call(self, name, data, capacity=1 << 16):
         """The answer of a call, with the fault of a record as standard error. The buffer's rest stays as it was."""
+        if name.endswith("_length"):
+            return self.length(name, data)
         size, length, fault = capacity + 64, ctypes.c_size_t(), (ctypes.c_size_t * 3)()
         buffer = ctypes.create_string_buffer(b"\xa5" * size, size)
         given = data, ctypes.c_size_t(len(data)), buffer, ctypes.c_size_t(capacity), ctypes.byref(length)

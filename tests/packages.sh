@@ -1,7 +1,7 @@
 # The Debian packages that the tests need, and who installs them. To be read by bash.
 
 # A package is here if its command is, or its module of Python, or else what follows its name.
-packages='python3 gcc libc6-dev=/usr/include/stdio.h binutils=readelf g++ default-jdk-headless=javac
+packages='python3 gcc clang cmake pkgconf=pkg-config libc6-dev=/usr/include/stdio.h binutils=readelf g++ default-jdk-headless=javac
     libjna-java=/usr/share/java/jna.jar git groff-base=groff jq parallel valgrind mkdocs help2man twine lintian
     python3-pytest python3-pytest-xdist=python:xdist python3-hypothesis python3-jsonschema python3-coverage
     python3-junitparser python3-jinja2 python3-html5lib python3-openpyxl python3-defusedxml python3-rich python3-pip

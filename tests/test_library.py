@@ -1,5 +1,6 @@
-"""The library for C: its header, examples in four languages, its answers beside those of the program, and calls with
-refused memory, with small buffers and in threads. BALISECHECK_LIBRARY names its folder."""
+"""The library for C: its header, its page, its ABI, examples in four languages, its answers beside the program's, and
+calls with refused memory, with small buffers and in threads. BALISECHECK_LIBRARY names its folder."""
+import collections
 import concurrent.futures
 import functools
 import json
@@ -19,15 +20,18 @@ from test_memory import in_turn, refuse
 from compare import accepted_of, inputs
 
 FOLDER = pathlib.Path(os.environ.get("BALISECHECK_LIBRARY", TOP / "dist" / "x86_64-linux")).resolve()
-ARCHIVE, SHARED = FOLDER / "libbalisecheck.a", FOLDER / "libbalisecheck.so"
+ARCHIVE, SHARED = FOLDER / "libbalisecheck.a", FOLDER / "libbalisecheck.so.0"
 HEADER = TOP / "crates" / "balisecheck_c" / "include" / "balisecheck.h"
+ABI, PAGE = TOP / "tests" / "abi.c", (TOP / "docs" / "library.md").read_text("utf-8")
 SOURCE, JNA = EXAMPLES / "library", "/usr/share/java/jna.jar"
 STRICT = "-Wall", "-Wextra", "-Werror", "-pedantic", "-I", HEADER.parent
-LINKED = {"archive": [ARCHIVE], "shared": [f"-Wl,-rpath,{FOLDER}", "-L", FOLDER, "-lbalisecheck"]}
+LINKED = {"archive": [ARCHIVE], "shared": [f"-Wl,-rpath,{FOLDER}", SHARED]}
 WATCHED = "valgrind", "-q", "--error-exitcode=95", "--leak-check=full"
 REFUSED, TOO_SMALL = 2, 4
 RECORDS = {"telegram": DECODE, "message": DECODE_RADIO}
-CALLS = {**{"_".join(words).replace("--", ""): words for words in COMMANDS}, **RECORDS}
+CALLS = {**{"_".join(words).replace("--", ""): words for words in COMMANDS}, "findings": CHECK, **RECORDS}
+LENGTHS = {f"{name}_length": words for name, words in CALLS.items()}
+EXPORTS = {f"balisecheck_{name}" for name in (*CALLS, *LENGTHS)}
 REASONS = dict(re.findall(r"BALISECHECK_\w+ = (\d+),? +/\* (.*?) \*/", HEADER.read_text()))
 # How a parameter is written in C, by its type in Rattle.
 TYPES = {"&[u8]": "const uint8_t *{0}, size_t {0}_length", "&mut [u8]": "uint8_t *{0}, size_t capacity",
@@ -43,12 +47,86 @@ def need(tool, package):
 def test_header_declares_each_export():
     text = re.sub(r"\s+", " ", HEADER.read_text())
     declared = re.findall(r"uint32_t (balisecheck_\w+)\(const", text)
+    assert "const char *balisecheck_version(void);" in text
     crate = "\n".join(path.read_text() for path in HEADER.parents[1].glob("src/**/*.rt"))
     exports = {name: re.findall(r"(\w+): ((?:&(?:mut )?)?[\w\[\]]+)", given)
                for name, given in re.findall(r'pub extern "C" fn (\w+)\(([^)]*)\)', crate)}
-    assert {*exports} == {f"balisecheck_{name}" for name in CALLS} == {*declared}
+    assert {*exports} == EXPORTS == {*declared} and len(declared) == len(EXPORTS)
     for name, given in exports.items():
         assert f"{name}({', '.join(TYPES[kind].format(it) for it, kind in given if kind != 'Global')});" in text
+
+
+@pytest.mark.parametrize("kind", [ARCHIVE, SHARED], ids=lambda path: path.suffix)
+def test_version(kind):
+    """It is that of the program."""
+    need("cc", "gcc")
+    assert Library(kind).version() == (TOP / "VERSION").read_text().strip()
+
+
+# ---- ABI
+
+
+def compiled(compiler, source, header):
+    """Whether a file compiles with a header in this folder, without a warning."""
+    return run(("-std=c11", "-Wall", "-Wextra", "-Wpedantic", "-Werror", "-I", header, "-fsyntax-only", source),
+               path=compiler).status == 0
+
+
+@pytest.mark.parametrize("compiler", ["gcc", "clang"])
+def test_abi(compiler, tmp_path):
+    """The header has the calls, numbers and layout that are promised, and a header with others is noticed."""
+    need(compiler, compiler)
+    text = HEADER.read_text()
+    assert compiled(compiler, ABI, HEADER.parent)
+    for old, new in (("size_t at;", "uint32_t at;"),
+                     ("uint32_t reason;\n    size_t at;", "size_t at;\n    uint32_t reason;"),
+                     ("BALISECHECK_SPARE = 11", "BALISECHECK_SPARE = 20"), ("_DONE = 0", "_DONE = 5"),
+                     ("uint32_t balisecheck_encode(const", "int balisecheck_encode(const"),
+                     ("balisecheck_decode_length(const", "balisecheck_length_of_decode(const"),
+                     ("const char *balisecheck_version", "char *balisecheck_version")):
+        assert text.count(old) == 1, old
+        (tmp_path / "balisecheck.h").write_text(text.replace(old, new))
+        assert not compiled(compiler, ABI, tmp_path), old
+
+
+@pytest.mark.skipif(not shutil.which("nm"), reason="symbols of the library (binutils)")
+def test_symbols():
+    """Both libraries export the calls that are promised, and no others. Debian's list of symbols has them."""
+    promised, numbers = ABI.read_text(), r"\b(BALISECHECK_[A-Z_]+)\b"
+    assert {*re.findall(numbers, promised)} == {*re.findall(numbers + " =", HEADER.read_text())}
+    calls = EXPORTS | {"balisecheck_version"}
+    assert {*re.findall(r"\b(balisecheck_\w+)\b", promised)} - {"balisecheck_fault"} == calls
+    exported = re.findall(r" [A-Z] (\w+)", run(("-D", "--defined-only", SHARED), path="nm").stdout)
+    archived = re.findall(r" T (\w+)", run(("-g", "--defined-only", ARCHIVE), path="nm").stdout)
+    assert {*exported} == calls == {name for name in archived if name.startswith("balisecheck_")}
+    listed = (TOP / "dist/pack/debian/libbalisecheck0.symbols").read_text()
+    assert re.findall(r"(?m)^ (\w+)@Base \d", listed) == sorted(calls)
+
+
+# ---- the page
+
+
+def test_page_is_the_header():
+    """The page has each call, type, status and reason as the header declares it, and no other."""
+    code = " ".join(re.findall(r"(?ms)^```c\n(?!#include)(.*?)^```$", PAGE))
+    header, shown = (re.sub(r"\s+", " ", text) for text in (HEADER.read_text(), code))
+    calls = r"(?:uint32_t|const char \*) ?balisecheck_\w+\([^)]*\);|struct balisecheck_fault {[^}]*};"
+    assert sorted(re.findall(calls, header)) == sorted(re.findall(calls, shown))
+    listed = re.findall(r"(?m)^\| (\d+) \| `(BALISECHECK_\w+)` \| (?:`([^`]*)` \|)?", PAGE)
+    assert [(name, number) for number, name, _ in listed] == re.findall(r"(BALISECHECK_\w+) = (\d+)", header)
+    assert {number: words for number, _, words in listed if words} == REASONS
+    wrappers = re.findall(r"inline answer (\w+)\(", header)
+    assert f"`namespace balisecheck`: {', '.join(f'`{name}`' for name in wrappers[:-1])} and `{wrappers[-1]}`." in PAGE
+
+
+def test_example_of_the_page(tmp_path):
+    """It compiles as printed, without a warning, and answers as `check`, also if its first buffer is too small."""
+    need("cc", "gcc")
+    (tmp_path / "check.c").write_text(re.search(r"(?ms)^```c\n(#include.*?)^```$", PAGE)[1])
+    words = *STRICT, "-o", tmp_path / "check", tmp_path / "check.c", ARCHIVE
+    assert run(words, path="cc", timeout=None) == (0, "", "")
+    checks(tmp_path / "check")
+    assert run((), b" " * (1 << 20), path=tmp_path / "check") == (3, "", "")
 
 
 # ---- examples
@@ -125,11 +203,70 @@ def test_records_beside_the_program(name, document, place):
             assert answer == wanted and verdict.status != REFUSED, record
 
 
-@pytest.mark.parametrize("name", CALLS)
+PLACE, ORDER = ("group", "message", "aspect", "balise", "packet"), (
+    "verdict", "reason", "path", "rule", "name", "group", "message", "aspect", "balise", "packet", "direction", "at",
+    "end", "groups", "messages", "findings")
+
+
+def place_of(parts):
+    return "".join(f" {key} {parts[key]}" for key in PLACE if key in parts)
+
+
+def report_of(line):
+    """The report or the refusal with the findings or the fault of a line of JSON."""
+    answer = json.loads(line)
+    if answer["verdict"] == "refused":
+        path = "".join(f"/{step}" for step in answer.get("path", ())) or "/"
+        reason = f"form {answer['reason']} at {path}" if "path" in answer else answer["reason"]
+        bits = f" at {answer['at']} end {answer['end']}" if "at" in answer else ""
+        return f"refused: {': '.join(filter(None, (place_of(answer)[1:], reason)))}{bits}\n"
+    found = [f"{it['rule']}{place_of(it)}{' ' + it['direction'] if 'direction' in it else ''}: {it['name']}\n"
+             for it in answer["findings"]]
+    if answer["verdict"] == "no":
+        return f"no: findings {len(found)}\n{''.join(found)}"
+    return f"yes: groups {answer['groups']}, messages {answer['messages']}\n"
+
+
+def test_findings_beside_the_report():
+    """For documents of the tests and random ones, the line has the parts of the report or the refusal in their order,
+    and the counts of the document. All findings and refusals are among them."""
+    drawn = [job.data for job in inputs(CHECK, accepted_of(shared(), CHECK), 300)]
+    documents = [*data_of("findings", runs_of(shared(), CHECK, each_kind=False)), *drawn]
+    library, reasons = Library(SHARED), collections.Counter()
+    for data, (wanted, _) in zip(documents, shared().play([Job(CHECK, data) for data in documents])):
+        found = library.call("findings", data, 1 << 20)
+        answer = json.loads(found.stdout)
+        assert (found.status, report_of(found.stdout)) == (wanted.status, wanted.stdout), data
+        assert found.stdout == json.dumps(answer, separators=(",", ":")) + "\n"
+        for parts in (answer, *answer.get("findings", ())):
+            assert [*parts] == [key for key in ORDER if key in parts], found
+        if "groups" in answer:
+            assert all(answer[key] == len(json.loads(data)[key]) for key in ("groups", "messages"))
+        reasons.update([answer.get("reason"), *(it["rule"] for it in answer.get("findings", ()))])
+    assert {f"F{it}" for it in range(1, 17)} | {"not JSON", "missing key", "unknown key", "kind", "count", "aspects"} \
+        <= {*reasons} and {*REASONS.values()} <= {*reasons}, reasons
+
+
+def test_findings_are_of_the_schema():
+    """And changed ones are not: without a member, or with another one."""
+    schema = json.loads((TOP / "schemas" / "findings.json").read_text())
+    jsonschema = pytest.importorskip("jsonschema", reason="JSON schemas (python3-jsonschema)")
+    validator, library = jsonschema.Draft202012Validator(schema), Library(SHARED)
+    for data in data_of("findings", runs_of(shared(), CHECK)):
+        answer = json.loads(library.call("findings", data).stdout)
+        validator.validate(answer)
+        for key in answer:
+            less = {it: value for it, value in answer.items() if it != key}
+            assert not validator.is_valid(less) or key == "aspect", answer
+        assert not validator.is_valid({**answer, "x": 0})
+
+
+@pytest.mark.parametrize("name", [*CALLS, *LENGTHS])
 def test_refused_memory(name):
     """With a request refused, by itself or with all later ones, a call answers as before, or 3 and no text."""
     need("cc", "gcc")
-    library, jobs = Library(ARCHIVE), [Job((name,), data) for data in data_of(name, runs_of(shared(), CALLS[name]))]
+    call = name.replace("_length", "")
+    library, jobs = Library(ARCHIVE), [Job((name,), data) for data in data_of(call, runs_of(shared(), CALLS[call]))]
     known = [(job, *played) for job, played in zip(jobs, library.play(jobs))]
     assert any(counts.requests for *_, counts in known)
     refuse(library, known, in_turn, "")
@@ -137,10 +274,12 @@ def test_refused_memory(name):
 
 @pytest.mark.parametrize("name", CALLS)
 def test_small_buffers_and_threads(name):
-    """Too small a buffer stays, one just large enough suffices. Two threads with little stack get the same at once."""
+    """Too small a buffer stays, and one just large enough suffices. The call for the length, without a buffer, returns
+    that size. Two threads with little stack get the same at once."""
     library = Library(SHARED)
     known = {data: library.call(name, data) for data in data_of(name, runs_of(shared(), CALLS[name]))}
     for data, wanted in known.items():
+        assert library.call(f"{name}_length", data) == (wanted.status, str(len(wanted.stdout)), "")
         for less in (0, 1, 10) if wanted.stdout else ():
             found = library.call(name, data, max(0, len(wanted.stdout) - less))
             assert found == (Answer(TOO_SMALL, "", "") if less else wanted), data
@@ -161,7 +300,7 @@ def test_threads_that_share_inputs(kind, tmp_path):
         pytest.skip("threads of the library by ThreadSanitizer (gcc)")
     files = [EXAMPLES / name for name in ("check/sound-line.json", "gradients.txt", "gradients.json", "spare-mark.txt")]
     ran = run(("-R", tmp_path / "threads", *files), path="setarch")
-    assert built.status == 0 and ran == (0, "4 inputs, 8960 calls in 8 threads: 0 wrong\n", ""), (built, ran)
+    assert built.status == 0 and ran == (0, "4 inputs, 15360 calls in 8 threads: 0 wrong\n", ""), (built, ran)
 
 
 @pytest.mark.skipif(not shutil.which("readelf"), reason="hardening of the library (binutils)")
@@ -171,6 +310,7 @@ def test_hardening():
     said = run(("-W", "-l", "-d", SHARED), path="readelf").stdout
     flags = re.findall(r"(?m)^  (\w+) +(?:0x[0-9a-f]+ +){5}([RWE ]{3}) ", said)
     assert {("GNU_STACK", "RW "), ("GNU_RELRO", "R  "), ("LOAD", "R E")} < {*flags} and ("LOAD", "RWE") not in flags
+    assert re.findall(r"\(SONAME\).*\[(.*)\]", said) == ["libbalisecheck.so.0"]
     assert re.search(r"\(FLAGS\) +BIND_NOW", said) and not re.search("TEXTREL|RPATH|RUNPATH", said) and re.findall(r"\(NEEDED\).*\[(.*)\]", said) == ["libc.so.6"]
 
 

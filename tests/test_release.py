@@ -1,5 +1,6 @@
 """A release of `scripts/release.sh --try`: each of its files is installed and used in a folder of its own."""
 import importlib.util
+import itertools
 import json
 import os
 import platform
@@ -23,6 +24,7 @@ NEEDS = {"git": "git", "help2man": "help2man", "dpkg-deb": "dpkg",
          "hatchling": "python3-hatchling", "pip": "python3-pip", "jinja2": "python3-jinja2"}
 # A clone's manual page of balisekit has no help of single commands here, which would take long.
 TOOLS = {"help": 'case $* in *.py" --"* | "-I -c "*) exec /usr/bin/python3 "$@" ;; esac\n'}
+NO_RULES = ("refused", "not-judged", "not-compared", "entry-at-fault")  # (results of SARIF that have no page)
 INSTALL = "-m pip install -q --no-index --no-deps --no-compile --disable-pip-version-check *.whl"
 # It counts how many processes a check starts.
 COUNT = """import contextlib, io, sys
@@ -74,6 +76,11 @@ def serves(made, prefix):
     has_manuals(prefix)
 
 
+def has_library(made):
+    """Whether the release has the library for C: only one of the stored program has it."""
+    return (made.with_name("tree") / STORED / "libbalisecheck.so.0").exists()
+
+
 def has_live_pages(folder, is_installed=True):
     """Links of pages lead to files. Only for a clone do pages of what is installed tell commands in the folder."""
     for page in [*folder.rglob("*.md"), *folder.rglob("METADATA")]:
@@ -87,7 +94,7 @@ def links_pages_of_rules(room, prefix):
     """SARIF of what is installed leads from each rule to its page."""
     status, said = attempt(room, f"'{prefix}/bin/balisekit' check '{TOP}/examples/links/line.csv' --sarif - 2>/dev/null")
     rules = json.loads(said)["runs"][0]["tool"]["driver"]["rules"]
-    named = {it["id"]: unquote(it["helpUri"]) for it in rules if it["id"] not in ("refused", "not-judged", "entry-at-fault")}
+    named = {it["id"]: unquote(it["helpUri"]) for it in rules if it["id"] not in NO_RULES}
     assert status == 0 and len(named) > 40
     for name, address in named.items():
         assert address == f"file://{prefix}/share/doc/balisecheck/docs/rules/{name}.md"
@@ -119,12 +126,14 @@ def test_files(made):
     """Two releases are equal, byte for byte. Their README names files that are there. A full folder is refused. What a
     clone installs has manual pages."""
     name = f"balisecheck-{VERSION}-x86_64-linux-untested.tar.gz"
+    with_library = ["libbalisecheck-dev", "libbalisecheck0"] if has_library(made) else []
     assert sh(made.parent, "diff -r made again") == ""
     assert attempt(TOP, f"scripts/release.sh --try '{made}'") == (1, f"release: {made} is not empty\n")
     assert sorted(os.listdir(made)) == [
         "README.md", "SHA256SUMS", f"balisecheck-{VERSION}-untested.spdx.json", name, f"{name}.sha256",
         f"balisecheck_{VERSION}_amd64-untested.deb",
-        f"balisekit-{VERSION}-0untested-py3-none-manylinux_2_34_x86_64.whl"]
+        f"balisekit-{VERSION}-0untested-py3-none-manylinux_2_34_x86_64.whl",
+        *(f"{it}_{VERSION}_amd64-untested.deb" for it in with_library)]
     assert sh(made, "sha256sum --quiet -c SHA256SUMS *.tar.gz.sha256") == ""
     readme = text_of(made / "README.md")
     has_manuals(made.with_name("clone"))
@@ -140,7 +149,7 @@ def test_tarball(made):
         about, stored = (text_of(it / STORED / "ABOUT").partition("\nkit ")[2] for it in (tree, TOP))
         header = "crates/balisecheck_c/include/balisecheck.h"
         assert about == stored and all(sum_of(tree / name) == sum_of(TOP / name) for name in (
-            header, f"{STORED}/libbalisecheck.a", f"{STORED}/libbalisecheck.so"))
+            header, f"{STORED}/libbalisecheck.a", f"{STORED}/libbalisecheck.so.0"))
     readme = text_of(tree / "README.md")
     assert "\n**This is a trial" in readme and "@" not in readme
     shows(tree / "README.md", tree)
@@ -187,7 +196,7 @@ def package_of(venv):
 def test_wheel(made, venv):
     """The wheel has the sources of balisekit and its start script as they are, with ABOUT, RELEASES and the library."""
     tree, package = made.with_name("tree"), package_of(venv)
-    files = {"RELEASES": tree / "dist/RELEASES", **{it: tree / STORED / it for it in ("ABOUT", "libbalisecheck.so")}}
+    files = {"RELEASES": tree / "dist/RELEASES", **{it: tree / STORED / it for it in ("ABOUT", "libbalisecheck.so.0")}}
     added = {it for it, path in files.items() if path.exists()}
     assert {"ABOUT", "RELEASES"} <= added and all(sum_of(package / it) == sum_of(files[it]) for it in added)
     differ = sh(tree, f"diff -r -x __pycache__ companion/src/balisekit '{package}' || true").splitlines()
@@ -228,7 +237,7 @@ def test_refused_rows(made, venv):
     count, said = sh(user, f"PATH='{venv}/bin':$PATH {check}").split("\n", 1)
     of_clone = sh(user, f"BALISECHECK='{program()}' PYTHONPATH='{TOP}/companion/src' {check}").split("\n", 1)
     assert said.endswith("INCOMPLETE: 200 of 1200 telegrams refused, 200 of 200 groups left out\n")
-    assert [count, said] == of_clone and (int(count) < 20 or not (package_of(venv) / "libbalisecheck.so").exists())
+    assert [count, said] == of_clone and (int(count) < 20 or not (package_of(venv) / "libbalisecheck.so.0").exists())
 
 
 def test_without_jinja2(made, venv):
@@ -269,8 +278,8 @@ def test_judged(judge, package, made):
 
 @pytest.fixture(scope="module", name="root")
 def a_root(made):
-    """A folder in which the .deb is unpacked."""
-    sh(made, f"dpkg-deb -R *.deb '{made.with_name('a root')}'")
+    """A folder in which the .deb of both commands is unpacked."""
+    sh(made, f"dpkg-deb -R balisecheck_*.deb '{made.with_name('a root')}'")
     return made.with_name("a root")
 
 
@@ -285,7 +294,8 @@ def test_deb(made, root):
     serves(made, root / "usr")
     assert all((root / name).exists() for name in re.findall(r"COPY --from=kit /(usr/\S*)", recipe))
     assert f"\nCOPY balisecheck_{VERSION}_amd64.deb " in recipe.replace("*", VERSION)
-    assert {*re.findall(r"[\w-]+", sh(made, "dpkg-deb -f *.deb Recommends"))} <= {*re.findall(r"[\w-]+", recipe)}
+    recommended = sh(made, "dpkg-deb -f balisecheck_*.deb Recommends")
+    assert {*re.findall(r"[\w-]+", recommended)} <= {*re.findall(r"[\w-]+", recipe)}
 
 
 @pytest.mark.parametrize("tool", ["jq", "parallel"])
@@ -308,14 +318,80 @@ def test_recipes_of_the_deb(tool, root, tmp_path):
     assert tried > (20 if tool == "jq" else 1)
 
 
-def test_library_of_the_deb(root, tmp_path):
-    """A program in C is compiled with the library of the .deb, as the page says."""
-    if not shutil.which("cc") or not (root / "usr/lib/balisecheck").exists():
-        pytest.skip("the library of the .deb (gcc)")
-    docs, there = root / "usr/share/doc/balisecheck", tmp_path / "root"
-    there.symlink_to(root)
-    recipe = re.search(r"(?ms)^```sh\n(cp -r .*?)^```$", text_of(docs / "docs/library.md"))[1]
-    assert sh(tmp_path, recipe.replace("/usr/", f"{there}/usr/")) == text_of(docs / "examples/duplicated-pair.json")
+@pytest.fixture(scope="module", name="library", params=["packages", "prefix"])
+def a_library(request, made):
+    """The folder that has lib and include: /usr of the packages of the library, unpacked by themselves, or the prefix
+    of install.sh. Beside it the folder of lib that the compiler searches."""
+    if not has_library(made):
+        pytest.skip("the library of a release (its program is not the stored one)")
+    place = made.with_name(f"a library by {request.param}")
+    if request.param == "prefix":
+        sh(made.with_name("tree"), f"./install.sh '{place}'")
+        return place, place / "lib"
+    for package in made.glob("libbalisecheck*.deb"):
+        sh(made, f"dpkg-deb -x '{package}' '{place}' && dpkg-deb -R '{package}' '{place}/{package.name}'")
+        sh(place / package.name, "md5sum --quiet -c DEBIAN/md5sums")
+    # (the place of a package is the root of a system, which this folder is not)
+    sh(place, f"sed -i 's|^prefix=.*|prefix={place}/usr|' usr/lib/*/pkgconfig/balisecheck.pc")
+    return place / "usr", place / "usr/lib/x86_64-linux-gnu"
+
+
+EXAMPLE = "examples/library"
+
+
+@pytest.mark.parametrize("compiler", ["gcc", "clang"])
+def test_pkg_config(compiler, library, tmp_path):
+    """An example is compiled by the words of pkg-config, without a warning, and finds the library when it starts."""
+    if not shutil.which(compiler) or not shutil.which("pkg-config"):
+        pytest.skip(f"the library by pkg-config ({compiler}, pkgconf)")
+    path = f"PKG_CONFIG_PATH='{library[1]}/pkgconfig'"
+    assert sh(tmp_path, f"{path} pkg-config --modversion balisecheck") == f"{VERSION}\n"
+    words = sh(tmp_path, f"{path} pkg-config --cflags --libs balisecheck").strip()
+    strict = "-std=c99 -Wall -Wextra -Wpedantic -Werror"
+    sh(tmp_path, f"{compiler} {strict} -o telegrams '{TOP}/{EXAMPLE}/c/telegrams.c' {words}")
+    assert "[libbalisecheck.so.0]" in sh(tmp_path, "readelf -d telegrams")
+    said = sh(tmp_path, f"LD_LIBRARY_PATH='{library[1]}' ./telegrams <'{TOP}/examples/header-only.txt'")
+    assert said == text_of(TOP / "examples/header-only.json")
+
+
+@pytest.mark.parametrize("version, status", [(VERSION, 0), ("0.5", 0), ("99.0", 1)])
+def test_cmake(version, status, library, tmp_path):
+    """Both examples are built by find_package, which takes this version for older ones. The archive is enough."""
+    if not shutil.which("cmake") or not shutil.which("c++"):
+        pytest.skip("the library by CMake (cmake, g++)")
+    sh(tmp_path, f"cp -r '{TOP}/{EXAMPLE}' it && sed -i 's/find_package(balisecheck/& {version}/' it/CMakeLists.txt")
+    configure = f"cmake -DCMAKE_PREFIX_PATH='{library[0]}' -S it -B build"
+    said, build = attempt(tmp_path, f"{configure} && cmake --build build"), tmp_path / "build"
+    assert said[0] == status, said
+    if status == 0:
+        assert sh(build, f"./telegrams <'{TOP}/examples/header-only.txt'") == text_of(TOP / "examples/header-only.json")
+        assert sh(build, f"./check <'{TOP}/examples/check/sound-line.json'") == "yes: groups 2, messages 2\n"
+        assert "libbalisecheck" not in sh(build, "readelf -d check")
+
+
+def test_python_and_java(library, tmp_path):
+    """Examples find the library by the name that its packages give it."""
+    search = f"LD_LIBRARY_PATH='{library[1]}'"
+    said = sh(tmp_path, f"{search} python3 '{TOP}/{EXAMPLE}/python/telegrams.py' <'{TOP}/examples/header-only.txt'")
+    assert said == text_of(TOP / "examples/header-only.json")
+    jna = "/usr/share/java/jna.jar"
+    if not shutil.which("java") or not os.path.exists(jna):
+        pytest.skip("the library in Java (default-jdk-headless, libjna-java)")
+    java = f"java -XX:TieredStopAtLevel=1 -cp {jna} '{TOP}/{EXAMPLE}/java/Check.java'"
+    assert sh(tmp_path, f"{search} {java} <'{TOP}/examples/check/sound-line.json'") == "yes: groups 2, messages 2\n"
+
+
+def test_documents_of_the_library(made, library):
+    """The development package has the reference and the examples, whose pages have live links, and licences."""
+    documents = library[0] / "share/doc/libbalisecheck-dev"
+    if library[0].name != "usr":
+        assert not documents.exists()
+        return
+    assert sh(documents, f"diff -r examples '{TOP}/{EXAMPLE}'") == "" and text_of(documents / "library.md")
+    has_live_pages(library[0].parent)
+    for name, paper in itertools.product(("libbalisecheck0", "libbalisecheck-dev"), ("copyright", "THIRD-PARTY.md")):
+        assert (documents.with_name(name) / paper).stat().st_size
+    assert sum_of(library[1] / "libbalisecheck.so.0") == sum_of(made.with_name("tree") / STORED / "libbalisecheck.so.0")
 
 
 def test_python_of_the_deb(root, tmp_path):
@@ -333,7 +409,8 @@ def test_components(made):
     """The SPDX document has the checksums of the program of the release, and of its library for C, if it has one."""
     packages = {it["name"]: it for it in json.loads(text_of(next(made.glob("*.json"))))["packages"]}
     assert packages["balisekit"]["versionInfo"] == VERSION
-    files = {"balisecheck": "balisecheck", **{it: f"{STORED}/{it}" for it in ("libbalisecheck.a", "libbalisecheck.so")}}
+    library = {it: f"{STORED}/{it}" for it in ("libbalisecheck.a", "libbalisecheck.so.0")}
+    files = {"balisecheck": "balisecheck", **library}
     for name, path in files.items():
         file = made.with_name("tree") / path
         assert file.exists() == (name in packages)

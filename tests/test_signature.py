@@ -161,6 +161,22 @@ def test_other_sources(room, command, why):
         assert status == 1 and f"verify-release: refused: {why}" in said, said
 
 
+@pytest.mark.parametrize("word", ["version", "sources", "program"])
+def test_a_line_of_about_twice(room, word):
+    """A second line could hide that no list has the program: one of a released version is enough for `grep`."""
+    sh(room / "unpacked", f"""about=dist/x86_64-linux/ABOUT
+        if [ {word} = version ]; then
+            listed=$(grep -v '^#' ../tree/dist/RELEASES | tail -n 1 | cut -d ' ' -f 1,3,4)
+            echo evil >balisecheck
+            printf 'version %s\\nversion evil\\nsources 0\\nprogram %s\\n' "$listed" "$(sha256sum <balisecheck | cut -c -64)"
+        else
+            sed '/^{word}/p' $about
+        fi >new; mv new $about; {LIST}; {SIGN}""")
+    for words in ("--key ../signers ../unpacked", "--unsigned ../unpacked"):
+        status, said = verify(room, words)
+        assert status == 1 and f"verify-release: refused: its ABOUT has several lines {word}\n" in said, said
+
+
 def test_other_clone(room):
     """The sources are those of the clone, or listed there, or, if the release is signed, listed in the release."""
     tree = room / "tree"

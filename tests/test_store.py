@@ -55,7 +55,7 @@ def test_store(stored):
     ("echo // >>crates/etcs_low/src/lib.rt", "not committed: "),
     ("echo // >>crates/etcs_low/src/lib.rt; save", "the program in out was built from other sources: scripts/build"),
     ("echo >>out/balisecheck", "the program in out is damaged: scripts/build"),
-    ("echo >>out/libbalisecheck.so", "the library in out is damaged, missing or of other sources: scripts/library"),
+    ("echo >>out/libbalisecheck.so.0", "the library in out is damaged, missing or of other sources: scripts/library"),
     ("sed -i '1s/.*/sources 0/' out/LIBRARY", "the library in out is damaged, missing or of other sources: "),
     ("sed -i s/1[.]2[.]9/9.9.9/ man/balisecheck.1", "not stored, since tests/dist failed")])
 def test_not_stored(stored, command, why):
@@ -109,7 +109,7 @@ VERSIONED = ("ABOUT", "../../VERSION", "../../man/balisecheck.1", "../../CHANGEL
     ("sed -i '2p; 2s/ [^ ]* 2/ 0 2/' ../RELEASES", "no number there is of two programs"),
     *((f"echo >>{name}", "program and library are undamaged") for name in ("balisecheck", "libbalisecheck.a")),
     ("chmod -x balisecheck", "the stored program can be run"), ("sed -i s/2.34/2.17/ ABOUT", "it needs this C library"),
-    ("echo GLIBC_2.36 >>libbalisecheck.so", "the stored library needs no more"),
+    ("echo GLIBC_2.36 >>libbalisecheck.so.0", "the stored library needs no more"),
     ("sed -i 's/^commit .*/commit 0123/' ABOUT", "the commit of its sources is in this history"),
     ("echo >>../../crates/etcs_low/src/lib.rt", "the stored program is of these sources"),
     ("echo >>../../out/balisecheck; sed -i 's/^kit .*/kit another/' ABOUT", "It was built by another kit, another."),

@@ -43,7 +43,7 @@ def test_functions(column, path):
     """The page has `functions` for the libraries that have some. What has `none` is named nowhere in the file."""
     assert {row["name"] for row in ROWS if row[column] == "functions"} == called(path) and len(ROWS) > 15
     named = {row["name"] for row in ROWS if row[column] not in ("functions", "inlined")} - {"gcc", "glibc"}
-    data = path.read_bytes() + (path.with_suffix(".so").read_bytes() if column == "library" else b"")
+    data = path.read_bytes() + (path.with_suffix(".so.0").read_bytes() if column == "library" else b"")
     assert [name for name in named if name.encode() in data] == []
     assert named == ({"clap", "strsim"} if column == "library" else set())
 
@@ -63,7 +63,7 @@ def test_start():
     data, found = Path(program()).read_bytes(), re.search(r"GCC (\d+\.\d+) of Ubuntu", PAGE)[1]
     assert b"GCC: (Ubuntu " + found.encode() in data and "_start" in nm(program())
     assert "_start" not in nm(LIBRARY / "libbalisecheck.a")
-    assert b"GCC: (" not in (LIBRARY / "libbalisecheck.so").read_bytes()
+    assert b"GCC: (" not in (LIBRARY / "libbalisecheck.so.0").read_bytes()
 
 
 @needs_nm
@@ -73,7 +73,7 @@ def test_reach():
     streams = {"read", "write", "__write", "lseek", "__errno_location", "__sysv_signal"}
     start = {"_ITM_deregisterTMCloneTable", "_ITM_registerTMCloneTable", "__cxa_finalize", "__gmon_start__",
              "__libc_start_main", "__x86_get_cpuid_feature_leaf"}
-    for path, known in ((program(), memory | streams | start), (LIBRARY / "libbalisecheck.so", memory)):
+    for path, known in ((program(), memory | streams | start), (LIBRARY / "libbalisecheck.so.0", memory)):
         listed = {*re.findall(r"(?m)^ +[Uw] (\w+)", nm(path, "-D", "--undefined-only"))}
         assert "malloc" in listed and listed <= known, path
     text = "\n".join(path.read_text("utf-8") for path in (TOP / "companion/src").rglob("*.py"))
@@ -121,7 +121,7 @@ def test_components(document):
     """The document has program, library, balisekit, all libraries of the page, and what balisekit can use."""
     packages = {it["name"]: it for it in document["packages"]}
     python = {name for name in SPDX["PYTHON"] if re.search(rf"\b{name}\b", PAGE)}
-    files = {"balisecheck", "libbalisecheck.a", "libbalisecheck.so"}
+    files = {"balisecheck", "libbalisecheck.a", "libbalisecheck.so.0"}
     assert {*packages} == {*files, "balisekit", *(row["name"] for row in ROWS), *python}
     for name in files:
         assert packages[name]["checksums"][0]["checksumValue"] == sha256((STORED / name).read_bytes()).hexdigest()
@@ -130,7 +130,7 @@ def test_components(document):
     assert wanted <= python and "jinja2" in wanted
     in_program, in_library = ({it["relatedSpdxElement"] for it in document["relationships"] if
                                (it["spdxElementId"], it["relationshipType"]) == (f"SPDXRef-{name}", "STATIC_LINK")}
-                              for name in ("balisecheck", "libbalisecheck.so"))
+                              for name in ("balisecheck", "libbalisecheck.so.0"))
     assert in_program - in_library == {f"SPDXRef-{name}" for name in ("clap", "strsim", "glibc", "gcc")}
     assert in_library < in_program
     crates = {name for row in ROWS if row["version"][0].isdigit() for name in SPDX["CRATES"].get(row["name"], [])}

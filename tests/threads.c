@@ -7,7 +7,7 @@
 #include <stdlib.h>
 #include <string.h>
 
-enum { THREADS = 8, TIMES = 20, COMMANDS = 5, CALLS = 7, INPUTS = 64, CAPACITY = 1 << 20 };
+enum { THREADS = 8, TIMES = 20, COMMANDS = 6, CALLS = 8, INPUTS = 64, CAPACITY = 1 << 20 };
 
 struct input {
     uint8_t *bytes;
@@ -20,7 +20,12 @@ struct answer {
     struct balisecheck_fault fault;
 };
 static uint32_t (*const commands[COMMANDS])(const uint8_t *, size_t, uint8_t *, size_t, size_t *) = {
-    balisecheck_check, balisecheck_decode, balisecheck_decode_radio, balisecheck_encode, balisecheck_encode_radio};
+    balisecheck_check, balisecheck_decode, balisecheck_decode_radio, balisecheck_encode, balisecheck_encode_radio,
+    balisecheck_findings};
+static uint32_t (*const lengths[CALLS])(const uint8_t *, size_t, size_t *) = {
+    balisecheck_check_length,        balisecheck_decode_length,   balisecheck_decode_radio_length, balisecheck_encode_length,
+    balisecheck_encode_radio_length, balisecheck_findings_length, balisecheck_telegram_length,
+    balisecheck_message_length};
 static struct input inputs[INPUTS];
 static int count;
 static struct answer expected[INPUTS][CALLS];
@@ -43,10 +48,13 @@ static void *work(void *first) {
             int turn = (place + (int)(size_t)first * 3) % (count * CALLS), number = turn % CALLS;
             const struct answer *wanted = &expected[turn / CALLS][number];
             struct answer got = call(&inputs[turn / CALLS], number, buffer, CAPACITY);
+            size_t length;
+            uint32_t status = lengths[number](inputs[turn / CALLS].bytes, inputs[turn / CALLS].size, &length);
             struct answer small = call(&inputs[turn / CALLS], number, buffer, wanted->length ? wanted->length - 1 : 0);
             wrong += got.status != wanted->status || got.length != wanted->length ||
                      memcmp(buffer, wanted->text, got.length) || got.fault.reason != wanted->fault.reason ||
                      got.fault.at != wanted->fault.at || got.fault.end != wanted->fault.end;
+            wrong += status != wanted->status || length != wanted->length;
             wrong += small.status != (wanted->length ? BALISECHECK_CAPACITY : wanted->status);
         }
     free(buffer);
@@ -72,6 +80,6 @@ int main(int argc, char **argv) {
         pthread_join(threads[each], &found);
         wrong += (size_t)found;
     }
-    printf("%d inputs, %d calls in %d threads: %zu wrong\n", count, 2 * THREADS * TIMES * count * CALLS, THREADS, wrong);
+    printf("%d inputs, %d calls in %d threads: %zu wrong\n", count, 3 * THREADS * TIMES * count * CALLS, THREADS, wrong);
     return wrong != 0;
 }

@@ -32,9 +32,9 @@ SHELL = r"""
     built() {
         program out "echo balisecheck $(cat VERSION) >&2 # $1 GLIBC_2.34"
         echo $1 >out/libbalisecheck.a
-        echo $1 GLIBC_2.4 GLIBC_2.34 >out/libbalisecheck.so
+        echo $1 GLIBC_2.4 GLIBC_2.34 >out/libbalisecheck.so.0
         printf '%s\n' "sources $(dist/sources)" "archive $(sum out/libbalisecheck.a)" \
-            "library $(sum out/libbalisecheck.so)" >out/LIBRARY
+            "library $(sum out/libbalisecheck.so.0)" >out/LIBRARY
     }
     save() { git add -A; git commit -q -m one; }
 """

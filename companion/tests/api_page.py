@@ -31,12 +31,17 @@ SECTIONS = (
     ("Functions", ("check", "read_table", "read_messages", "diff")),
     ("Results", ("Result", "Finding", "Difference", "KitError")),
     ("Inputs", ("Program", "Table", "Messages")),
+    ("The library for C", ("Library", "Call")),
     ("Rules of your own", ("AddedRule", "LineView", "GroupView", "TelegramView", "PacketView", "MessageView")),
     ("What a rule yields", ("AddedRemark", "Answer")),
 )
 SHOWN = {
-    "Difference": ("status", "unchanged", "whole"),
     "Program": ("find()", "path", "sha256"),
+    "Library": (
+        *("find()", "path", "version", "check()", "decode()", "decode_radio()", "encode()", "encode_radio()"),
+        *("telegram()", "message()"),
+    ),
+    "Call": ("status", "text", "fault"),
     "Table": ("path", "sha256"),
     "Messages": ("path", "sha256"),
     "AddedRemark": (),
@@ -59,7 +64,8 @@ def signature(name: str) -> str:
     found = getattr(balisekit, name)
     if not inspect.isfunction(found):
         return ""
-    return inspect.getsource(found).split('"""')[0].strip()
+    source = inspect.getsource(found).split('"""')[0].strip()
+    return source[source.index("def ") :]  # (without decorators)
 
 
 def _about(name: str) -> str:

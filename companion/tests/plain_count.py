@@ -4,6 +4,7 @@ from __future__ import annotations
 import csv
 import io
 import re
+import unicodedata
 from decimal import Decimal
 from typing import Any, Dict, Iterator, List, NamedTuple, Optional, Set, Tuple
 
@@ -12,6 +13,8 @@ QUOTES = "\"'‘’“”„«»"
 ZERO_WIDTH = "\u200b"
 LEAST = 40
 """The fewest characters of a telegram."""
+CHECKSUMS = (40, 64, 96, 128)
+"""How many digits usual checksums have."""
 LINE_ENDS = frozenset("\n\r\v\f\x1c\x1d\x1e\x85\u2028\u2029")
 
 
@@ -50,19 +53,60 @@ def bare(text: str) -> str:
 
 
 def is_telegram(text: str) -> bool:
-    """Whether a cell has at least 40 characters of which nine of ten are hexadecimal digits."""
-    rest = bare(text)
-    return len(rest) >= LEAST and 10 * sum(each in HEXADECIMAL for each in rest) >= 9 * len(rest)
+    """Whether a cell has at least 40 characters of which nine of ten are hexadecimal digits, perhaps in groups."""
+    return are_digits(bare(text)) or is_in_groups(groups_of(text))
+
+
+def are_digits(text: str) -> bool:
+    """Whether a text has at least 40 characters of which nine of ten are hexadecimal digits."""
+    return len(text) >= LEAST and 10 * sum(each in HEXADECIMAL for each in text) >= 9 * len(text)
+
+
+def groups_of(text: str) -> List[str]:
+    """What is between characters that are neither letters nor digits, without 0x, x, h and the like."""
+    plain = unicodedata.normalize("NFKC", text).replace("0x", " ").replace("0X", " ")
+    groups = "".join(each if each.isalnum() else " " for each in plain).split()
+    return list(filter(None, map(unmarked, groups)))
+
+
+def unmarked(group: str) -> str:
+    """A group without what tells that its digits are hexadecimal."""
+    small = group.lower()
+    for before, after in (("x", "h"), ("x", ""), ("h", ""), ("", "h")):
+        digits = small[len(before) : len(small) - len(after)]
+        if f"{before}{digits}{after}" == small and HEXADECIMAL.issuperset(digits):
+            return digits
+    return group
+
+
+def is_in_groups(groups: List[str]) -> bool:
+    """Whether they are one telegram: it has more letters than lists of numbers and names have."""
+    text = "".join(groups).lower()
+    letters = sum(each in "abcdef" for each in text)
+    if not are_digits(text) or all(map(is_name, groups)):
+        return False
+    size = max((len(group) for group in groups), key=lambda size: sum(len(each) == size for each in groups))
+    in_size = sum(len(group) for group in groups if len(group) == size)
+    return letters * (10 if 10 * in_size >= 9 * len(text) else 3) >= len(text)
+
+
+def is_name(group: str) -> bool:
+    """Whether it has letters at one end, and other digits."""
+    if group[:1].isalpha():
+        return group.lstrip("abcdefABCDEF").isdigit()
+    return group[:-1].isdigit() and group[-1].isalpha()
 
 
 def how_many(text: str) -> int:
     """How many telegrams a cell has: those between commas, semicolons, bars, tabs and line ends, or the whole of it.
 
-    A number of at least 40 digits counts too: a spreadsheet may have shortened a telegram to it.
+    If it looks like none, there may be some among words. A number of at least 40 digits counts too: a spreadsheet may
+    have shortened a telegram to it.
     """
-    if re.fullmatch("[0-9.,]+[eE][+][0-9]{2,3}", text.strip()):
+    if re.fullmatch("[0-9]+[.,][0-9]+[eE][0-9]{2,3}|[0-9.,]+[eE][+][0-9]{2,3}", text.strip()):
         return int(Decimal(text.strip().replace(",", ".")) >= 10**39)
-    return sum(map(is_telegram, re.split("[,;|\t\r\n\v\f\x1c-\x1e\x85\u2028\u2029]", text))) or int(is_telegram(text))
+    parts = re.split("[,;|\t\r\n\v\f\x1c-\x1e\x85\u2028\u2029]", text)
+    return sum(map(is_telegram, parts)) or int(is_telegram(text)) or sum(map(_is_among_words, parts))
 
 
 def cells_of_csv(content: bytes, encoding: str, separator: str) -> Cells:
@@ -129,7 +173,29 @@ def rows_read(cells: Cells, known: Known) -> List[int]:
 def swallowed(cells: Cells) -> Set[Place]:
     """The cells that contain line ends and, beside other things, telegrams: rows that a quote has swallowed."""
     with_ends = ((place, text) for place, text in cells.items() if not LINE_ENDS.isdisjoint(text))
-    return {place for place, text in with_ends if any(map(_has_telegram, text.replace(",", ";").split(";")))}
+    return {
+        place
+        for place, text in with_ends
+        if any(map(_has_telegram, text.replace(",", ";").split(";"))) or _has_groups(text)
+    }
+
+
+def _is_among_words(text: str) -> bool:
+    """Whether neighbours among its groups have hexadecimal digits only, and are a telegram."""
+    stretches: List[List[str]] = [[]]
+    for group in groups_of(text):
+        if HEXADECIMAL.issuperset(group) and len(group) not in CHECKSUMS:
+            stretches[-1].append(group)
+        elif len(group) not in CHECKSUMS:
+            stretches.append([])
+    return any(map(is_in_groups, filter(None, stretches)))
+
+
+def _has_groups(text: str) -> bool:
+    """Whether neighbours among its groups have one length, and are a telegram."""
+    groups = groups_of(text)
+    starts = [at for at, group in enumerate(groups) if at == 0 or len(groups[at - 1]) != len(group)]
+    return any(is_in_groups(groups[start:end]) for start, end in zip(starts, [*starts[1:], len(groups)]))
 
 
 def _has_telegram(text: str) -> bool:

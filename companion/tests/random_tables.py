@@ -81,6 +81,8 @@ WORDS = [
 ]
 OTHERS = ["remark", "drawn", "Prüfer", "Telegram 2", "Text", "checksum", "telegrams", "old telegram"]
 """Headings of columns that are passed over."""
+MARKS = ["0x{}", "0X{}", "\\x{}", "x'{}'", "{}h", "&H{}", "$ {}", "%{}"]
+"""How hexadecimal digits are marked."""
 COPY, LAST = "copy", "remark 2"
 """Columns that are passed over too: a second one for telegrams, and the last one of a table with a quote."""
 OWN = {"group": "BG-Name", "telegram": "Telegramm (hex)", "km": "Kilometer"}
@@ -182,11 +184,21 @@ class Maker:
         text = f"{before}{text}{after}"
         return f" {text}\u00a0" if random.random() < 0.1 else text
 
+    def in_groups(self, text: str) -> str:
+        """The text in groups, as tools write bytes."""
+        random, size = self.random, self.random.choice([1, 2, 2, 2, 4, 8])
+        parts = [text[at : at + size] for at in range(0, len(text), size)]
+        marks = ["{}", '"{}"', "'{}'", "“{}”", "[{}]", *(MARKS if size > 1 else [])]
+        between = random.choice([".", "_", " ", ", ", ",", "; ", "/", "|", " - ", "\u00b7", "\u200d", "\t", "~"])
+        return between.join(map(random.choice(marks).format, parts))
+
     def stray(self) -> str:
         """A telegram, also a refused one, or a text that is one but for a few characters."""
         random, way = self.random, self.random.randrange(12)
-        if way < 5:
+        if way < 3:
             return self.dressed(self.telegram())
+        if way < 5:
+            return self.in_groups(self.telegram())
         if way == 5:
             return self.dressed(self.refused())
         if way < 9:

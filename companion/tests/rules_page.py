@@ -16,7 +16,7 @@ from typing import Dict, Iterator, List, Sequence, Tuple
 HERE = Path(__file__).resolve().parent
 sys.path.insert(0, str(HERE.parent / "src"))
 
-from balisekit.present.explanations import Page, pages, with_assumptions  # noqa: E402  (the path comes first)
+from balisekit.present.explanations import Page, pages, with_items  # noqa: E402  (the path comes first)
 from balisekit.rules import links, meaning, track_plan  # noqa: E402
 from balisekit.rules.families import FAMILIES  # noqa: E402
 from balisekit.rules.rule import Rule  # noqa: E402
@@ -28,10 +28,13 @@ DOCUMENTS: Dict[Path, Sequence[Rule]] = {
     DOCS / "track-plan.md": track_plan.RULES,
 }
 SURE = "How sure"
-OWN = "This rule is balisekit's own, and not proved."
+OWN = (
+    "This rule is balisekit's own, and not proved. To see the example in a clone of the repository, run "
+    "`./balisekit check FILE`."
+)
 PROVED = (
     "The program balisecheck reports this finding. A proof shows that every such finding is a fact about the "
-    "telegrams. To see it in the example of a clone, run `./balisecheck check < FILE`."
+    "telegrams. To see the example in a clone of the repository, run `./balisecheck check < FILE`."
 )
 TITLES = {
     "F": ("Findings", "findings.md", PROVED),
@@ -58,9 +61,9 @@ def file(name: str, own: Page) -> str:
     """The page of a rule in Markdown. It has no links, because not every package has the other pages."""
     parts = [f"# {name}: {own.title}", f"For engineers whose data got {name}. {TITLES[name[0]][2]}"]
     for head, text in own.parts.items():
-        first, *assumptions = with_assumptions(head, text)
+        first, *items = with_items(head, text)
         parts.append(first.replace(f"{head}.", f"**{head}.**", 1))
-        parts += ["\n".join(f"- {each}" for each in assumptions)] if assumptions else []
+        parts += ["\n".join(f"- {each}" for each in items)] if items else []
     return "\n\n".join(parts) + "\n"
 
 
@@ -94,7 +97,7 @@ def _off(rule: Rule) -> str:
 
 def _first(text: str) -> str:
     """The first sentence, without the section of the standard."""
-    sentence = re.split(r"(?<=\.) (?=[A-Z`])", text)[0]
+    sentence = re.split(r"(?<=\.) (?=[A-Z`])|\n", text)[0]
     return re.sub(r" \(SUBSET-[^)]*\)", "", sentence)
 
 

@@ -282,6 +282,40 @@ def test_settings_name_code_only_if_somebody_names_them(run: Run, path: Path, tm
         assert status == 1 and not ran.exists() and any(": ACME-7: " in line for line in out)
 
 
+@pytest.mark.parametrize("option", ["found", "--columns"])
+def test_rules_that_an_option_replaces_are_named(run: Run, path: Path, tmp_path: Path, option: str) -> None:
+    """--rules-from takes the place of [check] rules_from, and a line of text and JSON names what is not applied."""
+    own, other = rule(path.parent), rule(tmp_path, "ACME-7")
+    settings = path.parent / "balisekit.toml"
+    settings.write_text("[check]\nrules_from = ['U1.py', 'acme-rules']\n", "utf-8")
+    words = ["--columns", settings] if option == "--columns" else []
+    line = f"not applied: {own}, acme-rules, which [check] rules_from names, because --rules-from replaces it"
+    assert line in run("check", path, *words, "--rules-from", other)[1]
+    answer = json.loads("\n".join(run("check", path, *words, "--rules-from", other, "--json", "-")[1]))
+    assert answer["not_applied"] == [line.replace(str(own), "U1.py")]
+    settings.write_text("[check]\nrules_from = ['U1.py']\n", "utf-8")
+    assert not any("not applied: " in line for line in run("check", path, *words, "--rules-from", own)[1])
+
+
+def test_a_rule_that_needs_kilometres(run: Run, table: Write, tmp_path: Path, monkeypatch: pytest.MonkeyPatch) -> None:
+    """It is named for a table without them, and the answer is incomplete: somebody has asked for this rule."""
+    set_day(monkeypatch, 1780000000)
+    without = table("group,telegram", f"A,{ALONE}", f"B,{OTHER}")
+    rules = ["--rules-from", rule(tmp_path, more=", needs_kilometres=True")]
+    junit, sarif = tmp_path / "junit.xml", tmp_path / "check.sarif"
+    status, out, _ = run("check", without, *rules, "--junit", junit, "--sarif", sarif)
+    assert status == 2 and out[-1].startswith("INCOMPLETE: U1 compared none of 1 table (no row has a kilometre: 1); ")
+    assert "no kilometres: rules over the line are not applied" in out
+    assert any("U1 compared none" in (case.get("message") or "") for case in ElementTree.parse(junit).iter("error"))
+    assert not json.loads(sarif.read_text("utf-8"))["runs"][0]["invocations"][0]["executionSuccessful"]
+    status, out, _ = run("check", without, *rules, "--rules-from", rule(tmp_path, "ACME-7"))
+    assert status == 2 and any(": ACME-7: " in line for line in out)
+    entry = f"U1,1,1,,,,,,looked at,J. Doe,2026-01-02,,{'0' * 64}"
+    entries = table(",".join(COLUMNS), entry, name="a.csv")
+    out = run("check", without, *rules, "--accepted", entries)[1]
+    assert any(line.startswith("note: ") and "U1" in line for line in out), out
+
+
 def package(
     folder: Path, monkeypatch: pytest.MonkeyPatch, points: str = "[balisekit.rules]\nu1 = acme_rules.u1:RULE\n"
 ) -> Path:

@@ -90,10 +90,10 @@ def test_each_example_is_as_the_schemas_say(run: Run, tmp_path: Path, path: Path
     assert all(rules[result["ruleIndex"]]["id"] == result["ruleId"] for result in log["results"])
     names = [*(f"F{number}" for number in range(1, 17)), *(f"L{number}" for number in range(1, 10))]
     names += [rule.name for rule in meaning.RULES if rule.is_default]
-    assert [rule["id"] for rule in rules] == ["refused", "not-judged", "entry-at-fault", *names]
-    pages = {rule["id"]: TOP / "docs" / "rules" / f"{rule['id']}.md" for rule in rules[3:]}
-    assert {rule["id"]: rule.get("helpUri") for rule in rules[3:]} == {it: pages[it].as_uri() for it in pages}
-    assert all(path.is_file() for path in pages.values()) and not any("helpUri" in rule for rule in rules[:3])
+    assert [rule["id"] for rule in rules] == ["refused", "not-judged", "not-compared", "entry-at-fault", *names]
+    pages = {rule["id"]: TOP / "docs" / "rules" / f"{rule['id']}.md" for rule in rules[4:]}
+    assert {rule["id"]: rule.get("helpUri") for rule in rules[4:]} == {it: pages[it].as_uri() for it in pages}
+    assert all(path.is_file() for path in pages.values()) and not any("helpUri" in rule for rule in rules[:4])
 
 
 @pytest.mark.uncovered

@@ -8,6 +8,7 @@ import pytest
 from conftest import Run
 from telegrams import ALONE, OTHER
 from test_help import _parser
+from test_lines_of_answers import OUTPUTS
 
 from balisekit.cli import check
 from balisekit.io.outputs import Output
@@ -20,6 +21,10 @@ Write = Callable[..., Path]
 NAMES = [each.name for each in FORMATS]
 
 
+NO_ANSWER = {"document", "propose"}
+"""What these write has no lines of the answer: the document that was checked, and entries to be signed."""
+
+
 def write(output: Output, outcome: Outcome) -> None:
     """The status as a file."""
     output.write([f"{outcome.status}\n"])
@@ -29,6 +34,11 @@ def test_each_module_is_a_format() -> None:
     """Its file has the name of its option."""
     modules = [path.stem for path in Path(formats.__file__).parent.glob("*.py") if path.stem != "__init__"]
     assert NAMES == sorted(modules) and all(each.help for each in FORMATS)
+
+
+def test_the_lines_of_each_are_compared() -> None:
+    """A new format is in the list of outputs that have all lines of an answer, unless it has none of them."""
+    assert {*NAMES} - NO_ANSWER == {*OUTPUTS} - {"html"}
 
 
 @pytest.mark.parametrize("name", NAMES)

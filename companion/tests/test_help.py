@@ -56,7 +56,7 @@ def test_each_word_has_its_help(command: str) -> None:
 def test_no_page_has_a_word_that_is_none(text: str) -> None:
     """Each option on a page is one of a command, and an option after a command is one of that command."""
     verifies = _named((TOP / "scripts" / "verify-release").read_text("utf-8"))
-    others = {"--radio", "--anew", *verifies}  # (of balisecheck, .ci/run and verify-release)
+    others = {"--radio", "--anew", "--all-files", *verifies}  # (of balisecheck, .ci/run, pre-commit and verify-release)
     known = set().union(*map(_options, COMMANDS)) | OF_ALL | others
     assert set(_named(text)) - known == set()
     shown = re.findall(r"(?:balisekit|`)\s?(" + "|".join(COMMANDS) + r")\b([^|`\n]*)", text)

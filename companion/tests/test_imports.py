@@ -18,9 +18,11 @@ BELOW = {
     "engine": (),
     "rules": ("engine", "etcs", "io", "tables"),
     "compare": ("engine", "etcs", "rules", "tables"),
+    "mistakes": ("engine", "etcs", "rules", "tables"),
+    "certificate": ("engine", "io", "mistakes", "rules", "tables"),
     "drawing": ("engine", "etcs", "rules", "tables"),
-    "present": ("compare", "drawing", "engine", "etcs", "io", "rules", "tables"),
-    "cli": ("compare", "drawing", "engine", "etcs", "io", "present", "rules", "tables"),
+    "present": ("certificate", "compare", "drawing", "engine", "etcs", "io", "rules", "tables"),
+    "cli": ("certificate", "compare", "drawing", "engine", "etcs", "io", "present", "rules", "tables"),
 }
 """The folders that each folder may import. All may import `balisekit.errors`, and themselves."""
 COMMON = ("errors", "__version__")

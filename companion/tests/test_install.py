@@ -74,7 +74,7 @@ def test_version_starts_no_program(
     monkeypatch.setattr(program_file, "TOP", tmp_path)
     (tmp_path / "dist" / "one").mkdir(parents=True)
     about = tmp_path / "dist" / "one" / "ABOUT"
-    library = about.parent / "libbalisecheck.so"
+    library = about.parent / "libbalisecheck.so.0"
     library.touch()
     for lines, said in (
         ("", [f"balisekit {__version__}"]),

@@ -11,12 +11,12 @@ import sys
 import typing
 from decimal import Decimal
 from pathlib import Path
-from typing import Any, List
+from typing import Any, Callable, List
 
 import api_page
 import pytest
 from cases_of_program import TOP
-from conftest import Run, set_day
+from conftest import Run, set_day, without_usual_opening
 from telegrams import ALONE, OTHER
 from test_check_outputs import schema
 
@@ -26,6 +26,8 @@ from balisekit.io import csv_writing
 from balisekit.rules.accepted import COLUMNS
 
 LINE = TOP / "examples" / "table" / "line.csv"
+ANY: Any = balisekit
+"""The package for calls with arguments of other types."""
 PLAN = TOP / "examples" / "meaning"
 FUNCTIONS = """\
 check(table, *, messages, only, accepted, plan, jumps, tolerance, line_speed, release_speed, rules, rules_from, \
@@ -35,10 +37,12 @@ read_messages(path)
 read_table(path, sheet, by_position, columns, fill_merged, skip_columns)"""
 MEMBERS = {
     "AddedRule": "name page looks_at sentence find urgency needs_kilometres is_default",
-    "Difference": "unchanged whole status",
+    "Call": "status fault text",
+    "Difference": "status last_line lines unchanged whole to_json()",
     "Finding": "rule family rows group aspect direction km sentence values urgency expected accepted message program",
     "GroupView": "name km track identity unread telegrams remark()",
     "KitError": "lines() status",
+    "Library": "path find() version check() decode() decode_radio() encode() encode_radio() telegram() message()",
     "LineView": "groups telegrams messages",
     "MessageView": "line name form packets() remark()",
     "Messages": "path sha256",
@@ -182,9 +186,17 @@ def test_errors_are_kit_errors(program: Program) -> None:
         assert raised.value.status == 2
 
 
-def test_diff(program: Program) -> None:
-    result = balisekit.check(LINE, only="F", program=program)
-    assert balisekit.diff(result, result).status == 2
+def test_diff(run: Run, tmp_path: Path, program: Program) -> None:
+    """As the command answers, in words and as JSON."""
+    paths = [tmp_path / name for name in ("old.csv", "new.csv")]
+    for path, telegram in zip(paths, (ALONE, OTHER)):
+        path.write_text(f"group,telegram\nA,{telegram}\nB,{ALONE}\nC,00\n", "utf-8")
+    status, out, _ = run("diff", *paths, "--json", tmp_path / "d.json")
+    found = balisekit.diff(*(balisekit.check(path, only="F", program=program) for path in paths))
+    assert status == found.status == 2 and out == without_usual_opening(found.lines)
+    assert not found.whole and found.unchanged == 1 and found.last_line == out[-1]
+    written, answer = json.loads((tmp_path / "d.json").read_text("utf-8")), found.to_json()
+    assert {**answer, "settings": None} == {**written, "settings": None} and answer["groups_renumbered"]
 
 
 def test_representations_are_short(program: Program) -> None:
@@ -225,6 +237,27 @@ def test_a_table_keeps_its_file_of_settings(program: Program, tmp_path: Path) ->
     assert len(balisekit.check(table, program=program).of("X")) == 5
 
 
+def test_the_settings_name_how_a_table_was_read(program: Program, tmp_path: Path) -> None:
+    """Each option of read_table that differs from its default is in text and JSON, as by the command."""
+    book = pytest.importorskip("openpyxl").Workbook()
+    book.active.title = "Line"
+    for row in (["group", "telegram", "old", "new"], ["A", ALONE, OTHER, OTHER]):
+        book.active.append(row)
+    book.save(tmp_path / "t.xlsx")
+    (tmp_path / "own.toml").write_text('telegram = "telegram"\n', "utf-8")
+    options: Any = {"sheet": "Line", "by_position": True, "fill_merged": True, "skip_columns": ["old", "new"]}
+    table = balisekit.read_table(tmp_path / "t.xlsx", columns=tmp_path / "own.toml", **options)
+    result = balisekit.check(table, program=program)
+    (line,) = (line for line in result.lines if line.startswith("settings: "))
+    given = "--sheet Line, --skip-column old, --skip-column new, --by-position, --fill-merged; "
+    assert line.startswith(f"settings: {given}{tmp_path / 'own.toml'} (SHA-256 ")
+    stated = result.to_json()["settings"][0]["values"]
+    names = "--sheet --skip-column --skip-column --by-position --fill-merged"
+    assert " ".join(each["name"] for each in stated) == names
+    plain = balisekit.check(balisekit.read_table(LINE), program=program)
+    assert "settings: all have their defaults" in plain.lines
+
+
 def test_links_need_kilometres(program: Program, tmp_path: Path) -> None:
     (tmp_path / "t.csv").write_text(f"group,telegram\nA,{ALONE}\n", "utf-8")
     with pytest.raises(balisekit.KitError, match="no row has a kilometre: links needs the column km"):
@@ -258,3 +291,34 @@ def test_types_are_stated() -> None:
         found = getattr(balisekit, name)
         if inspect.isfunction(found):
             assert set(found.__annotations__) == {*inspect.signature(found).parameters, "return"}
+
+
+@pytest.mark.parametrize(
+    "call, why",
+    [
+        (lambda: ANY.check(None), "None is no path"),
+        (lambda: ANY.check(5), "5 is no path"),
+        (lambda: ANY.check(LINE, only=["L"]), "only is .'L'., and no text"),
+        (lambda: ANY.check(LINE, rules=[""]), "rules: nothing is no rule"),
+        (lambda: ANY.check(LINE, rules=5), "rules is 5, and no list"),
+        (lambda: ANY.check(LINE, rules_from="rule.py"), "rules_from is one text: write .'rule.py'."),
+        (lambda: ANY.check(LINE, rules_from=5), "rules_from is 5, and no list"),
+        (lambda: ANY.check(LINE, by_position="no"), "by_position is 'no': write True or False"),
+        (lambda: ANY.check(LINE, everything=1), "everything is '1': write True or False"),
+        (lambda: ANY.check(LINE, accepted=5), "5 is no path"),
+        (lambda: ANY.check(LINE, columns=5), "5 is no path"),
+        (lambda: ANY.check(LINE, messages=5), "5 is no path"),
+        (lambda: ANY.check(LINE, program=5), "5 is no path"),
+        (lambda: ANY.check(LINE, plan=5), "No such file"),
+        (lambda: ANY.read_table(None), "None is no path"),
+        (lambda: ANY.read_table(LINE, skip_columns=5), "skip_columns is 5, and no list"),
+        (lambda: ANY.read_table(LINE, fill_merged="no"), "fill_merged is 'no': write True or False"),
+        (lambda: ANY.read_messages(b"radio.txt"), "b'radio.txt' is no path"),
+        (lambda: ANY.diff(None, None), "diff compares two results of check"),
+    ],
+)
+def test_values_of_wrong_types(call: Callable[[], object], why: str) -> None:
+    """They are refused with their argument, and none is taken for another value."""
+    with pytest.raises(balisekit.KitError, match=why) as raised:
+        call()
+    assert raised.value.status == 2

@@ -3,8 +3,10 @@ from __future__ import annotations
 
 import ctypes
 import hashlib
+import json
 import os
 import random
+import subprocess
 import sys
 from dataclasses import replace
 from pathlib import Path
@@ -15,6 +17,7 @@ import pytest
 from cases_of_program import TOP
 from telegrams import ALONE, FAULTY, MESSAGE, OTHER, SPARE
 
+import balisekit
 from balisekit.engine import find_program, library as engine_library, program as engine
 from balisekit.engine.grammar import Refusal
 from balisekit.engine.library import Call, Library, opened, stored
@@ -22,7 +25,7 @@ from balisekit.engine.program import Program
 from balisekit.engine.run import Run
 from balisekit.errors import NoAnswer
 
-LIBRARY = os.path.join(os.environ.get("BALISECHECK_LIBRARY", TOP / "dist" / "x86_64-linux"), "libbalisecheck.so")
+LIBRARY = os.path.join(os.environ.get("BALISECHECK_LIBRARY", TOP / "dist" / "x86_64-linux"), "libbalisecheck.so.0")
 DICE = random.Random(7)
 LINES = DICE.choices((ALONE, OTHER, SPARE, FAULTY, "zz"), k=200)
 MESSAGES = DICE.choices((MESSAGE, MESSAGE, MESSAGE[:-2], "0304", "zz"), k=200)
@@ -74,13 +77,13 @@ def test_only_the_library_that_was_stored_with_the_program(tmp_path: Path, monke
     (folder / "ABOUT").write_text(f"program 0b\nlibrary {hashlib.sha256(b'one').hexdigest()}\n", "utf-8")
     assert stored("0b") == ""
     for content, programs, found in ((b"one", "0b", True), (b"one", "0c", False), (b"other", "0b", False)):
-        (folder / "libbalisecheck.so").write_bytes(content)
-        assert stored(programs) == (str(folder / "libbalisecheck.so") if found else "")
+        (folder / "libbalisecheck.so.0").write_bytes(content)
+        assert stored(programs) == (str(folder / "libbalisecheck.so.0") if found else "")
 
 
 def test_a_library_that_cannot_be_used_is_none(tmp_path: Path) -> None:
-    (tmp_path / "libbalisecheck.so").write_text("no library", "utf-8")
-    assert opened(str(tmp_path / "libbalisecheck.so")) is None is opened("")
+    (tmp_path / "libbalisecheck.so.0").write_text("no library", "utf-8")
+    assert opened(str(tmp_path / "libbalisecheck.so.0")) is None is opened("")
 
 
 def test_without_ctypes_there_is_none(program: Program, monkeypatch: pytest.MonkeyPatch) -> None:
@@ -101,7 +104,7 @@ def stand(*answers: Any) -> Library:
         return int(status)
 
     library = Library.__new__(Library)
-    library.__dict__.update(_path="stand", _shared=SimpleNamespace(balisecheck_decode=call))
+    library.__dict__.update(path="stand", _shared=SimpleNamespace(balisecheck_decode=call))
     return library
 
 
@@ -117,6 +120,45 @@ def test_no_answer_of_the_library(program: Program, status: int, text: bytes, mo
     beside.__dict__["library"] = stand((status, text))
     with pytest.raises(NoAnswer, match="no answer of stand: balisecheck_decode: "):
         list(beside.decode([SPARE, ALONE]))
+
+
+def said_of(program: Program, words: List[str], data: bytes) -> str:
+    """What a run of the program writes."""
+    return subprocess.run([program.path, *words], input=data, stdout=subprocess.PIPE, check=False).stdout.decode()
+
+
+@needs_library
+def test_the_public_calls(program: Program) -> None:
+    """Each answers as the command of its name, or as the command of its record."""
+    library = balisekit.Library.find(LIBRARY)
+    telegrams, messages = (f"{text}\n".encode() for text in (ALONE, MESSAGE))
+    document = json.dumps({"groups": [{"balises": [ALONE]}], "messages": [MESSAGE]}).encode()
+    lines, radio = library.decode(telegrams), library.decode_radio(messages)
+    assert library.check(document).text == said_of(program, ["check"], document) and library.check(document).status == 1
+    assert lines.text == said_of(program, ["decode"], telegrams)
+    assert radio.text == said_of(program, ["decode", "--radio"], messages)
+    assert library.encode(lines.text.encode()).text.encode() == telegrams
+    assert library.encode_radio(radio.text.encode()).text.encode() == messages
+    assert library.telegram(telegrams[:-1]).text == lines.text and library.message(messages[:-1]).text == radio.text
+    assert library.telegram(ALONE.encode()).fault is None and library.version.count(".") == 2
+
+
+@needs_library
+def test_the_fault_of_a_record() -> None:
+    """It is the one that the refusal of the program names."""
+    library = balisekit.Library.find(LIBRARY)
+    for call, fault in ((library.telegram(b"zz"), (1, 0, 0)), (library.telegram(FAULTY.encode()), None)):
+        refusal = library.check(json.dumps({"groups": [{"balises": [FAULTY]}], "messages": []}).encode()).text
+        assert (call.status, call.text) == (2, "") and call.fault is not None
+        assert call.fault == fault or f" at {call.fault.at} end {call.fault.end}\n" in refusal
+
+
+def test_no_library_is_found(monkeypatch: pytest.MonkeyPatch) -> None:
+    monkeypatch.setattr(engine_library, "stored", lambda: "")
+    with pytest.raises(balisekit.KitError, match="no library for C is here"):
+        balisekit.Library.find()
+    with pytest.raises(balisekit.KitError, match="no library for C: /no/library cannot be used here"):
+        balisekit.Library.find("/no/library")
 
 
 def test_the_lines_of_a_call() -> None:

@@ -77,8 +77,8 @@ def said(monkeypatch: pytest.MonkeyPatch) -> List[AnswerLine]:
     lines: List[AnswerLine] = []
     answer = outcome_text.answer
 
-    def kept(*words: Any) -> Iterator[AnswerLine]:
-        for line in answer(*words):
+    def kept(*words: Any, **options: Any) -> Iterator[AnswerLine]:
+        for line in answer(*words, **options):
             lines.append(line)
             yield line
 
@@ -114,7 +114,7 @@ def test_each_line_is_in_each_output(
     rows = [{**signed, "rule": "F14", "nid_bg": "9"}, {**signed, "rule": "X1", "nid_bg": "1"}]
     table(",".join(COLUMNS), *(",".join(row.get(name, "") for name in COLUMNS) for row in rows), name="a.csv")
     words = ["t.csv", "--messages", "m.txt", "--accepted", "a.csv", "--rules", "all"]
-    outputs = [word for name in ("json", "junit", "sarif", "xlsx") for word in (f"--{name}", f"out.{name}")]
+    outputs = [word for name in OUTPUTS if name != "html" for word in (f"--{name}", f"out.{name}")]
     assert run("check", *words, "--explain", "--document", "line.json", *outputs)[0] == 2
     in_words = list(said)
     assert run("report", *words, "--html", "out.html")[0] == 2

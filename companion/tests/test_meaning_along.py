@@ -2,7 +2,6 @@
 from __future__ import annotations
 
 import copy
-from dataclasses import replace
 from decimal import Decimal
 from functools import partial
 from pathlib import Path
@@ -311,7 +310,7 @@ def test_e14(found: Found) -> None:
 def test_e14_beyond_q_locacc(found: Found) -> None:
     """L2 allows `--tolerance` too, and counts from the sender: both differences here are above Q_LOCACC, 5 m."""
     both = all_of(links_of("Signal 4", 0, 5), links_of("Signal 4", 1, -10))
-    tolerant = replace(ASKED, tolerance=Decimal(3), tolerance_of_places=Decimal(3))
+    tolerant = ASKED._replace(tolerance=Decimal(3), tolerance_of_places=Decimal(3))
     for changed, options, difference in ((both, ASKED, 10), (links_of("Signal 4", 0, 7), tolerant, 7)):
         assert not found("L2", SHORT, changed, options)
         *_, one = found("E14", SHORT, changed, options)
@@ -1010,7 +1009,7 @@ def test_one_field_may_be_the_cause(
 def repeated(place: int, metres: int) -> Options:
     """Kilometres that are given twice: from this place on they are `metres` less."""
     before = Decimal(place) / 1000
-    return replace(ASKED, jumps=(Jump(before, before - Decimal(metres) / 1000),))
+    return ASKED._replace(jumps=(Jump(before, before - Decimal(metres) / 1000),))
 
 
 def test_a_border_where_the_kilometres_are_repeated(found: Found) -> None:

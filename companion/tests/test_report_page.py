@@ -84,6 +84,14 @@ def report(run: Run, path: Path, *words: object, status: Optional[int] = None) -
     return target.read_text("utf-8")
 
 
+def test_items_of_a_rule_are_a_list(run: Run, tmp_path: Path) -> None:
+    """The page of a rule has its conditions as items, and each assumption that makes it a false alarm."""
+    table = tmp_path / "t.csv"
+    table.write_bytes((TOP / "examples" / "links" / "distance-differs.csv").read_bytes())
+    (rule,) = re.findall(r'(?s)<details class="rule" id="L2".*?</details>', report(run, table, status=1))
+    assert rule.count("<ul>") == 2 and rule.count("<li>") == 4 + 3 and "\n- " not in rule
+
+
 @pytest.fixture
 def line(tmp_path: Path) -> Path:
     """A copy of the example table, in a folder of its own."""
@@ -270,7 +278,7 @@ def test_the_commands_repeat_the_verdict(
     """The document of these commands has the checksum of the page, and the program answers as the page quotes it."""
     messages = tmp_path / "the messages.txt"
     messages.write_text((TOP / "examples" / "radio-position-report.txt").read_text())
-    page = report(run, line, "--messages", messages, "--by-position", "--all", "--only", "L")
+    page = report(run, line, "--messages", messages, "--by-position", "--all", "--only", "F,L")
     (evidence,) = re.findall('<div class="evidence">(.*?)</div>', page, re.DOTALL)
     (commands,) = [text for _, _, text in Page(evidence).all("pre")]
     first, second, third = commands.splitlines()

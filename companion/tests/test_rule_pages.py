@@ -12,7 +12,7 @@ import rules_page
 from cases_of_program import TOP
 from meaning_mistakes_of_groups import MISTAKES_FOLDER
 
-from balisekit.present.explanations import page_of, with_assumptions
+from balisekit.present.explanations import page_of, with_items
 from balisekit.rules.accepted import RULES
 from balisekit.rules.links import RULES as LINKS
 from balisekit.rules.meaning import RULES as REMARKS
@@ -98,12 +98,22 @@ def test_assumptions_are_a_list() -> None:
     """Each assumption of a rule that makes its remark a false alarm is an item of its own; no word is lost."""
     for rule in OWN:
         text = rule.parts[FALSE_ALARM]
-        first, *items = with_assumptions(FALSE_ALARM, text)
+        first, *items = with_items(FALSE_ALARM, text)
         assert " ".join([first, *items]) == f"{FALSE_ALARM}. {text}"
         assert len(items) == 0 or all(len(item.split()) > 8 for item in items)
     lines = [*page_of("E12")]
     at = lines.index(f"    {FALSE_ALARM}.")
     assert lines[at + 1].startswith("    - The rule assumes that all authorities to one group end at one place. ")
+
+
+def test_conditions_are_a_list() -> None:
+    """An item of a paragraph is a line of its own in each form of the page, and no paragraph or item is long."""
+    item = "The L_SECTION of a section is 0."
+    assert f"    - {item}" in page_of("E3") and f"\n\n- {item}\n- " in dict(rules_page.files())["E3.md"]
+    parts = readability.paragraphs_of_rules()
+    assert f"- {item}" in parts["E3"]
+    own = {name: [*with_items(head, text)] for name, rule in RULES.items() for head, text in rule.parts.items()}
+    assert all(len(part.split()) <= 90 for some in own.values() for part in some)
 
 
 def test_each_rule_has_a_file() -> None:

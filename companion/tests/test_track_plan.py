@@ -9,6 +9,7 @@ import re
 from collections import Counter
 from dataclasses import replace
 from decimal import Decimal
+from itertools import count
 from pathlib import Path
 from typing import Any, Callable, Dict, Iterator, List, Optional, Sequence, Tuple
 
@@ -28,6 +29,7 @@ from balisekit.rules import checking, telegrams, track_plan
 from balisekit.rules.chainage import Jump
 from balisekit.rules.line import Line as LineOfTable
 from balisekit.rules.rule import Options, Remark, Result
+from balisekit.rules.track_plan import implied as implied_module
 from balisekit.rules.track_plan.implied import implied
 from balisekit.tables import messages as messages_file, plan, reader
 
@@ -100,7 +102,7 @@ def read(program: Program, path: Path, jumps: Sequence[Jump] = (), radio: Option
 
 def results(line: LineOfTable, rows: List[Cells], folder: Path, options: Options = Options()) -> Dict[str, Result]:
     """What each rule finds with a plan of these rows."""
-    stated = replace(options, plan=plan_of(rows, folder))
+    stated = options._replace(plan=plan_of(rows, folder))
     return {rule.name: rule.find(line, stated) for rule in track_plan.RULES}
 
 
@@ -720,12 +722,21 @@ def test_the_plan_of_a_project_has_jumps(run: Run, program: Program, tmp_path: P
     """`plan` uses those of [check] plan, each once, but this plan may be the one that it writes first."""
     path, file, other = written(program, tmp_path / "t.csv"), tmp_path / "p.csv", tmp_path / "other.csv"
     jumped(path)
-    (tmp_path / "balisekit.toml").write_text("[check]\nplan = 'p.csv'\njumps = 'j.csv'\n", "utf-8")
-    jumps = tmp_path / "j.csv"
-    jumps.write_text("km,km_after\n20.000,25.000\n", "utf-8")
+    settings, stated = tmp_path / "balisekit.toml", "[check]\nplan = 'p.csv'\n"
+    (tmp_path / "j.csv").write_text("km,km_after\n20.000,25.000\n", "utf-8")
+    settings.write_text(f"{stated}jumps = 'j.csv'\n", "utf-8")
     assert run("plan", path, "--csv", file)[0] == 0
-    jumps.write_text("km,km_after\n", "utf-8")
-    for _ in range(2):
+    for jumps in ("", "jumps = 'j.csv'\n"):
+        settings.write_text(stated + jumps, "utf-8")
         assert run("plan", path, "--csv", other, "--force")[0] == 0
         assert other.read_bytes() == file.read_bytes() and file.read_text("utf-8").count("jump") == 1
-        jumps.write_text("km,km_after\n20.0,25.0\n", "utf-8")
+
+
+def test_notes_of_a_plan_have_the_order_of_the_table(program: Program, monkeypatch: pytest.MonkeyPatch) -> None:
+    """Here each element has a reason of its own. No order depends on the run."""
+    numbers = count()
+    monkeypatch.setattr(implied_module, "span", lambda saying, element: (None, f"reason {next(numbers):04}"))
+    table = reader.read(str(TOP / "examples" / "meaning" / "line.csv"))
+    notes = implied(LineOfTable.of(checking.check(program, table)), Options()).notes
+    reasons = [note for note in notes if "reason" in note]
+    assert len(reasons) > 20 and reasons == sorted(reasons)

@@ -34,7 +34,8 @@ STATED = {
 """The laws of the edition that state a promise, each perhaps with one of its clauses."""
 BESIDE: Mapping[str, List[Key]] = {
     "Output": [("etcs_run", "parsed_command")],
-    "Library for C": [("balisecheck_c", it) for it in ("IsAnswer", "IsRecordAnswer", "telegram_fault", "message_fault")]}
+    "Library for C": [("balisecheck_c", it) for it in (
+        "IsAnswer", "IsLength", "IsRecordAnswer", "telegram_fault", "message_fault")]}
 """What a promise names beside the definitions of these laws: the command that words are, and what calls return."""
 
 

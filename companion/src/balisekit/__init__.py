@@ -9,8 +9,8 @@ from __future__ import annotations
 
 TYPE_CHECKING = False  # (that of typing would make the start slower)
 if TYPE_CHECKING:
-    from balisekit.api import Finding, Result, check, diff, read_messages, read_table
-    from balisekit.compare.releases import Difference
+    from balisekit.api import Difference, Finding, Result, check, diff, read_messages, read_table
+    from balisekit.engine.library import Call, Library
     from balisekit.engine.program import Program
     from balisekit.errors import KitError
     from balisekit.rules.added import (
@@ -30,10 +30,12 @@ __all__ = [
     "AddedRemark",
     "AddedRule",
     "Answer",
+    "Call",
     "Difference",
     "Finding",
     "GroupView",
     "KitError",
+    "Library",
     "LineView",
     "MessageView",
     "Messages",
@@ -48,8 +50,8 @@ __all__ = [
     "read_table",
 ]
 _HOMES = {
-    "api": ("Finding", "Result", "check", "diff", "read_messages", "read_table"),
-    "compare.releases": ("Difference",),
+    "api": ("Difference", "Finding", "Result", "check", "diff", "read_messages", "read_table"),
+    "engine.library": ("Call", "Library"),
     "engine.program": ("Program",),
     "errors": ("KitError",),
     "tables.model": ("Messages", "Table"),

@@ -4,16 +4,18 @@ from __future__ import annotations
 import argparse
 import json
 import os
+from dataclasses import replace
 from decimal import Decimal
 from typing import Any, Callable, Dict, Iterator, List, Mapping, NamedTuple, Optional, Sequence, Tuple, Union
 
 from balisekit.cli import outcome as commands, settings
-from balisekit.compare.releases import Difference, compare
+from balisekit.compare import releases
 from balisekit.engine.program import Program
 from balisekit.errors import TableError
+from balisekit.io import inputs
 from balisekit.io.inputs import InputPath
 from balisekit.io.outputs import Json
-from balisekit.present import outcome_text
+from balisekit.present import diff_text, outcome_text
 from balisekit.present.check_json import as_json
 from balisekit.rules import stated
 from balisekit.rules.added import AddedRule
@@ -21,6 +23,7 @@ from balisekit.rules.discovery import letter_of
 from balisekit.rules.entries import Entry
 from balisekit.rules.families import Outcome
 from balisekit.tables import messages as messages_file, reader
+from balisekit.tables.decimals import own_context
 from balisekit.tables.model import Messages, Table
 
 Path = Union[str, "os.PathLike[str]"]
@@ -75,11 +78,13 @@ class Result:
         return self._outcome.status
 
     @property
+    @own_context()
     def last_line(self) -> str:
         """The last line of the answer, with the verdict of the program."""
         return outcome_text.last_lines(self._outcome)[-1]
 
     @property
+    @own_context()
     def lines(self) -> List[str]:
         """The answer in words, as the command writes it."""
         return list(outcome_text.lines(self._outcome))
@@ -98,6 +103,7 @@ class Result:
         a record `km` is a float, and `rows`, `values` and `program` are texts."""
         return [_record(finding) for finding in self.findings]
 
+    @own_context()
     def to_json(self) -> Dict[str, Any]:
         """The object that `check --json` writes, by schemas/kit-check.json."""
         answer: Dict[str, Any] = _plain(as_json(self._outcome))
@@ -108,6 +114,48 @@ class Result:
         return f"<Result of {path}: status {self.status}, {len(self.findings)} findings, {self.last_line}>"
 
 
+class Difference:
+    """All that differs between two releases."""
+
+    def __init__(self, found: releases.Difference) -> None:
+        self._found = found
+
+    @property
+    def status(self) -> int:
+        """2 if anything was refused, 1 if anything differs, else 0."""
+        return self._found.status
+
+    @property
+    def last_line(self) -> str:
+        """The last line of the answer: how much differs, and whether all could be compared."""
+        return diff_text.last_line(self._found)
+
+    @property
+    def lines(self) -> List[str]:
+        """The answer in words, as `balisekit diff` writes it."""
+        return list(diff_text.lines(self._found))
+
+    @property
+    def unchanged(self) -> int:
+        """How many telegrams and messages are unchanged."""
+        return self._found.unchanged
+
+    @property
+    def whole(self) -> bool:
+        """Whether all telegrams and messages could be compared."""
+        return self._found.whole
+
+    def to_json(self) -> Dict[str, Any]:
+        """The object that `balisekit diff --json` writes. It has lists of what was added, removed, renumbered,
+        exchanged or changed, with rows, words and values."""
+        answer: Dict[str, Any] = _plain(diff_text.as_json(self._found))
+        return answer
+
+    def __repr__(self) -> str:
+        return repr(self._found)
+
+
+@own_context()
 def read_table(
     path: Path,
     sheet: Optional[str] = None,
@@ -121,16 +169,19 @@ def read_table(
     `columns` is a TOML file with headings of your own, and `fill_merged` fills the cells of merged areas.
     `skip_columns` are the headings of columns that are not to be read, even if they have telegrams.
     """
-    own = None if columns is None else os.fspath(columns)
+    own = None if columns is None else stated.path(columns)
     stated.reading(sheet, own, skip_columns)
-    return reader.read(os.fspath(path), sheet, by_position, own, fill_merged, skip_columns)
+    stated.look_at_switches(by_position=by_position, fill_merged=fill_merged)
+    return reader.read(stated.path(path), sheet, by_position, own, fill_merged, skip_columns)
 
 
+@own_context()
 def read_messages(path: Path) -> Messages:
     """The radio messages of a file."""
-    return messages_file.read(os.fspath(path))
+    return messages_file.read(stated.path(path))
 
 
+@own_context()
 def check(
     table: Union[Path, Table],
     *,
@@ -156,33 +207,72 @@ def check(
     was read. `rules_from` takes files, names of packages, and an `AddedRule` of a script. `accepted` is a file that
     `balisekit check --propose FILE` begins, and docs/guide.md describes.
     """
-    found = table if isinstance(table, Table) else read_table(table, None, by_position, columns)
-    own_settings = found.columns if columns is None else stated.name(os.fspath(columns))
-    options = argparse.Namespace(table=found.path, columns=own_settings)
+    stated.look_at_switches(by_position=by_position, everything=everything)
+    found = _table_from_here(table) if isinstance(table, Table) else read_table(table, None, by_position, columns)
+    own_settings = found.columns if columns is None else stated.path(columns)
+    options = _as_read(found, own_settings)
     given = {"plan": plan, "jumps": jumps, "tolerance": tolerance, "line_speed": line_speed}
-    named = rules if rules is None or isinstance(rules, str) else ",".join(rules) or None
-    given.update(release_speed=release_speed, rules=named)
+    given.update(release_speed=release_speed, rules=_names_of(rules))
     vars(options).update({name: None if value is None else _read(name, value) for name, value in given.items()})
-    options.rules_from = [each if isinstance(each, AddedRule) else _read("rules_from", each) for each in rules_from]
-    options.rules_from = options.rules_from or None
+    options.rules_from = _rules_from(rules_from)
     options.only = None if only is None else _asked(commands.families_of, "only", only)
-    options.accepted = None if accepted is None else InputPath(stated.name(os.fspath(accepted)))
-    options.by_position, options.all = by_position, everything
-    said = messages if messages is None or isinstance(messages, Messages) else read_messages(messages)
-    return Result(commands.outcome(options, commands.stated(options), inputs=(_program(program), found, said)))
+    options.accepted = None if accepted is None else InputPath(stated.path(accepted))
+    options.by_position, options.all = by_position or found.reading.by_position, everything
+    inputs_given = _program(program), found, None if messages is None else _messages(messages)
+    return Result(commands.outcome(options, commands.stated(options), inputs=inputs_given))
 
 
+@own_context()
 def diff(old: Result, new: Result) -> Difference:
     """What differs between two releases of a table that were checked: groups, telegrams, messages and findings F of the
-    program. It does not compare what other rules find. `balisekit diff --json FILE` writes what differs."""
-    return compare(old._outcome.checked, new._outcome.checked)
+    program. It does not compare what other rules find."""
+    if not isinstance(old, Result) or not isinstance(new, Result):
+        raise TableError("diff compares two results of check")
+    return Difference(releases.compare(old._outcome.checked, new._outcome.checked))
+
+
+def _as_read(table: Table, columns: Optional[str]) -> argparse.Namespace:
+    """The options of the command that reads a table as it was read."""
+    reading = {**table.reading._asdict(), "skip_column": list(table.reading.skip_column)}
+    return argparse.Namespace(table=table.path, columns=columns, **reading)
+
+
+def _table_from_here(table: Table) -> Table:
+    """The same table with paths that start from the current folder, which can be another one since it was read."""
+    columns = table.columns and _from_here(table.columns, table.folder)
+    return replace(table, path=_from_here(table.path, table.folder), columns=columns, folder=inputs.current_folder())
+
+
+def _messages(given: Union[Path, Messages]) -> Messages:
+    """The messages of a file, or those that were read, with a path that starts from the current folder."""
+    said = given if isinstance(given, Messages) else read_messages(given)
+    return said._replace(path=_from_here(said.path, said.folder))
+
+
+def _from_here(path: str, folder: str) -> str:
+    """A path that starts from this folder, as it is in the current one."""
+    return path if folder == inputs.current_folder() else os.path.join(folder, path)
 
 
 def _program(program: Union[Program, Path, None]) -> Program:
     """The program that was given, or the one of a path, or the one of this balisekit."""
     if program is None or isinstance(program, Program):
         return program or Program.find()
-    return Program.find(stated.name(os.fspath(program)))
+    return Program.find(stated.path(program))
+
+
+def _rules_from(given: Sequence[Union[Path, AddedRule]]) -> Optional[List[Any]]:
+    """The rules of users as the command has them. An empty list names none."""
+    stated.look_at_list("rules_from", given)
+    return [each if isinstance(each, AddedRule) else _read("rules_from", each) for each in given] or None
+
+
+def _names_of(rules: Union[str, Sequence[str], None]) -> Optional[str]:
+    """The names of rules as the command has them. An empty list names none."""
+    if rules is None or isinstance(rules, str):
+        return rules
+    stated.look_at_list("rules", rules)
+    return ",".join(map(str, rules)) if list(rules) else None
 
 
 def _read(name: str, value: object) -> Any:
@@ -192,6 +282,8 @@ def _read(name: str, value: object) -> Any:
 
 def _asked(read: Callable[[str], Any], name: str, text: str) -> Any:
     """What an option makes of a text. TableError is raised if it takes no such text."""
+    if not isinstance(text, str):
+        raise TableError(f"{name} is {str(text)[:40]}, and no text")
     try:
         return read(text)
     except argparse.ArgumentTypeError as error:

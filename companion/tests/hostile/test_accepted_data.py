@@ -119,6 +119,16 @@ def test_entries_without_a_checksum_accept_nothing(run: Run, table: Write, tmp_p
     assert row["reason"] == SIGNED["reason"] and run("check", path, "--accepted", old)[0] == 0
 
 
+def test_a_cell_without_a_heading(run: Run, table: Write) -> None:
+    """Its heading may have been deleted by mistake. Without its last day the entry would accept for ever."""
+    path = table("group,telegram", f"A,{ALONE}", f"B,{ALONE}")
+    heading, row = signed(run, path, until="2026-01-02").read_text("utf-8").splitlines()
+    for lines in ((heading.replace("until", ""), row), (f"{heading},", f"{row},withdrawn")):
+        file, number = table(*lines, name="without.csv"), lines[0].split(",").index("") + 1
+        err = [f"balisekit: {file}: row 2: cell {number} is not empty, and has no heading"]
+        assert run("check", path, "--accepted", file) == (2, [], err)
+
+
 STAR = {"nid_c": "1", "nid_bg": "1", **SIGNED}
 
 

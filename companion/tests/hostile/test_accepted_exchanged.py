@@ -192,3 +192,34 @@ def test_a_remark_of_several_groups_is_of_their_aspects(program: Program) -> Non
 
     other = [each._replace(also=list(map(in_yellow, each.also))) for each in united]
     assert any(checksum([one]) != checksum([two]) for one, two in zip(united, other))
+
+
+def words_of(item: Item) -> str:
+    """The sentence of a remark, or the statement of a finding."""
+    return item.sentence if isinstance(item, Remark) else str(item.statement)
+
+
+@pytest.mark.parametrize("table", [EXAMPLES / "table/line.csv", PLANNED], ids=["line", "plan"])
+def test_names_of_groups_exchanged(program: Program, tmp_path: Path, table: Path) -> None:
+    """An entry stays with an identity and its telegrams. A remark for which a name counts, as of X4, is another one."""
+    stated = plan.read(str(EXAMPLES / "meaning/plan.csv")) if table == PLANNED else None
+    rows, path = list(csv.DictReader(io.StringIO(table.read_text("utf-8")))), tmp_path / "t.csv"
+
+    def outcome(turned: Dict[str, str], entries: Optional[Entries] = None) -> Outcome:
+        lines = [",".join(rows[0]), *(",".join([turned.get(cell, cell) for cell in row.values()]) for row in rows)]
+        path.write_text("\n".join(lines), "utf-8")
+        checked = checking.check(program, reader.read(str(path)))
+        return apply(checked, "FLEX", Options(asked=frozenset({ALL}), plan=stated), (entries, DAY) if entries else None)
+
+    first = outcome({})
+    # (a sentence that names a row of the plan has the same words, and one that names a group the same identity)
+    (entries, sentences), words = signed(first), set(map(words_of, first.items))
+    names = [group.name for group in first.checked.kept]
+    for one, other in list(zip(names, names[1:]))[:MOST]:
+        found = outcome({one: other, other: one}, entries)
+        said = said_by(found)
+        assert found.judged is not None
+        pairs = [(item, entry) for item, entry in zip(found.judged.items, found.judged.by_item) if entry]
+        assert len(pairs) > 2 and all(
+            words_of(item) in words or said(item) in sentences[entry.row] for item, entry in pairs
+        ), (one, other)

@@ -1,6 +1,8 @@
 """Tables with telegrams that a green could hide: each is judged, refused, or named as not judged (accounts.json)."""
 from __future__ import annotations
 
+import csv
+import io
 import json
 import re
 import xml.etree.ElementTree as ElementTree
@@ -176,6 +178,65 @@ def test_a_heading_that_is_not_there(run: Run, table: Write) -> None:
     assert status == 2 and "note: --skip-column odl: there is no such column" in said
 
 
+NO_TELEGRAMS = [
+    " ".join(f"{12 + number / 8:.3f}" for number in range(10)),
+    ", ".join(f"B{number}" for number in range(101, 112)),
+    ", ".join(f"A-{number}" for number in range(12, 27)),
+    "; ".join(f"{number}a" for number in range(11, 30)),
+    "+49 30 1234567 / +49 40 1234567 / +49 89 1234567 / +49 221 123456",
+    "030c8000-0000-4b00-8081-e81c501ff805 130c8000-0aa0-4b00-8081-e81c501ff806",
+    "12.345 (A), 12.400 (B), 13.500 (C), 13.700 (D), 14.900 (A), 15.300 (B), 15.800 (C)",
+    "24-05-01 24-05-02 24-05-03 24-05-04 24-05-05 24-05-06 24-05-07",
+    "made by the commit 94197054c0950af5adb77da36675a30ab0567caf of the tool",
+    "from a file with the SHA-256 97bc4c0976698b7a13531ab778525bb2ff68eb3c91c95f4f887488360abdbe8d",
+    "1e45",
+]
+
+
+HALVES = f"{OTHER[:27]};{OTHER[27:]}"
+PAIRS = ";".join(OTHER[at : at + 2] for at in range(0, len(OTHER), 2))
+HIDDEN = {
+    f"to be replaced by {OTHER} (drawing 12)": 1,
+    f"wrong order, to be replaced by {OTHER[:26]} {OTHER[26:52]} {OTHER[52:]} by J. Doe": 1,
+    f"either {OTHER} as drawn, or {ALONE} as built": 2,
+    "9.02734812345679E53": 1,
+    '="9.02735E+53"': 1,
+    "9.02735E+53 and 9.02736E53": 2,
+    HALVES: 1,
+    PAIRS: 1,
+}
+"""Cells with telegrams among words, as numbers, or in several cells, and how many."""
+
+
+@pytest.mark.parametrize("cells", HIDDEN)
+def test_telegrams_in_cells_that_look_like_none(run: Run, table: Write, cells: str) -> None:
+    """They count in a column and in a sheet that are not read."""
+    texts = cells.split(";")
+    rows = [["group", "telegram", *(f"x{at}" for at in range(len(texts)))], ["A", ALONE, *texts]]
+    out = io.StringIO(newline="")
+    csv.writer(out, delimiter=";").writerows(rows)
+    status, said, _ = run("check", table(content=out.getvalue().encode()), "--only", "F")
+    assert status == 2 and any(f"{1 + HIDDEN[cells]} telegrams in the file; 1 judged" in line for line in said)
+    book = pytest.importorskip("openpyxl").Workbook()
+    for row in rows:
+        book.active.append(row[:2])
+    other = book.create_sheet("other")
+    other.append(["x", *texts])
+    for cell in other[1]:
+        cell.data_type = "s"
+    file = table(content=b"", name="book.xlsx")
+    book.save(file)
+    status, said, _ = run("check", file, "--only", "F")
+    assert status == 2 and any(f"{1 + HIDDEN[cells]} telegrams in the file; 1 judged" in line for line in said)
+
+
+@pytest.mark.parametrize("remark", NO_TELEGRAMS)
+def test_a_list_in_a_remark(run: Run, table: Write, remark: str) -> None:
+    """Numbers, names and UUIDs are no telegram, although they have more than 40 hexadecimal digits."""
+    status, said, _ = run("check", table("group;telegram;old", f"A;{ALONE};{remark.replace(';', ',')}"), "--only", "F")
+    assert status == 0 and any("1 telegram in the file; 1 judged" in line for line in said)
+
+
 @pytest.mark.parametrize("name", [MESSAGE * 2, MESSAGE, f"to train 7;{MESSAGE}", f" 0x{MESSAGE.upper()}h"])
 def test_a_message_as_a_name(name: str, run: Run, table: Write) -> None:
     """A line of a file of messages has one message."""
@@ -186,9 +247,28 @@ def test_a_message_as_a_name(name: str, run: Run, table: Write) -> None:
 
 @pytest.mark.parametrize("name", ["report 1{};authority 2", "1{}", "x {} y", "a:{}", "b={}", "c({})", "of 4711 {};2"])
 def test_a_message_in_a_name(table: Write, name: str) -> None:
-    """A lost line end puts a message behind the name of another one, in plain digits or in pairs."""
-    pairs = [MESSAGE[place : place + 2] for place in range(0, len(MESSAGE), 2)]
-    for text in (MESSAGE, *(between.join(pairs) for between in (":", "-", " ", " 0x"))):
+    """A lost line end puts a message behind the name of another one, in plain digits or in groups."""
+    pairs, fours = ([MESSAGE[at : at + size] for at in range(0, len(MESSAGE), size)] for size in (2, 4))
+    between = [
+        ":",
+        "-",
+        " ",
+        " 0x",
+        ".",
+        "_",
+        "/",
+        ", ",
+        "\u00b7",
+        "\u200d",
+        "0x",
+        "\\x",
+        ",0x",
+        "h ",
+        "' '",
+        '","',
+        "][",
+    ]
+    for text in (MESSAGE, *(each.join(groups) for each in between for groups in (pairs, fours))):
         with pytest.raises(TableErrors, match="line 1: after the semicolon is a message: write one per line"):
             messages.read(str(table(f"{MESSAGE};{name.format(text)}", name="m.txt")))
 
@@ -197,6 +277,8 @@ def test_a_name_of_digits(table: Write) -> None:
     """A time to the microsecond, the checksum of something or a UUID is no message."""
     names = ["20261130190405123456", "d41d8cd98f00b204e9800998ecf8427e", MESSAGE[:-1], ""]
     names += ["2026-11-30 19:04:05 123456", "030c8000-0000-4b00-8081-e81c501ff805", f"1{' ' * 5000}x"]
+    names += ["km 12.345-13.400, 14.500-15.600", "192.168.100.101 to 192.168.100.102"]
+    names += ["+49 30 1234567 / +49 40 1234567"]
     read = messages.read(str(table(*(f"{MESSAGE};{name}" for name in names), name="m.txt")))
     assert [one.name for one in read.messages] == names
 

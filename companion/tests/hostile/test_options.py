@@ -13,6 +13,7 @@ from cases_of_program import TOP
 from conftest import Run
 from telegrams import MESSAGE
 
+from balisekit.present.formats import FORMATS
 from balisekit.tables.names import clean
 
 pytestmark = pytest.mark.uncovered
@@ -25,7 +26,7 @@ EMPTY = [
     ("links {empty}", "TABLE"),
     ("diff {empty} LINE", "OLD"),
     ("diff LINE {empty}", "NEW"),
-    *((f"check LINE {option} {{empty}}", option) for option in ("--json", "--junit", "--document", "--propose")),
+    *((f"check LINE --{each.name} {{empty}}", f"--{each.name}") for each in FORMATS),
     *((f"check LINE {option} {{empty}}", option) for option in ("--accepted", "--messages", "--program", "--sheet")),
     ("links LINE --json {empty}", "--json"),
     ("report LINE --html {empty}", "--html"),

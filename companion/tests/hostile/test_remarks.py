@@ -60,6 +60,25 @@ def test_tracks_that_differ_in_case_or_blanks(run: Run, table: Write, one: str, 
 
 
 @pytest.mark.parametrize(
+    "one, other, is_named",
+    [
+        ("1", "01", 1),
+        ("1", "1.0", 1),
+        ("01", "1,00", 1),
+        ("Gleis 1", "gleis 01", 1),
+        ("1", "10", 0),
+        ("1.2", "1.20", 0),
+    ],
+)
+def test_tracks_whose_numbers_are_written_otherwise(
+    run: Run, table: Write, one: str, other: str, is_named: bool
+) -> None:
+    """A spreadsheet drops the first zeros of a number, and adds decimals. Parts of a name such as 1.2 are no number."""
+    out = run("check", table("group;track;telegram", f"A;{one};{ALONE}", f"B;{other};{OTHER}"))[1]
+    assert looks(out) == [f'look: tracks "{one}" and "{other}" differ only in how a number is written'] * is_named
+
+
+@pytest.mark.parametrize(
     "one, other", [("Signal A", "SIGNAL A"), ("Zug", "Z\u00fcg"), ("A1", "AI"), ("\u0410", "\u0411")]
 )
 def test_names_that_differ_to_the_eye(run: Run, table: Write, one: str, other: str) -> None:

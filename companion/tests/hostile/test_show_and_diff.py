@@ -423,3 +423,26 @@ def test_a_line_without_an_end(monkeypatch: pytest.MonkeyPatch, run: Run) -> Non
     status, _, err = run("show")
     assert (status, err) == (2, ["balisekit: standard input: line 1: it has more than 100,000 characters"])
     assert stream.read_lines < 5000
+
+
+def test_a_document_and_a_table_are_paired_by_order(run: Run, table: Write, program: Program, tmp_path: Path) -> None:
+    """Names that were exchanged in the table are no difference, so a note in all outputs says what is not compared."""
+    rows = rows_of(program, [("S", name, form) for name, form in of_aspects({"red": 1, "green": 2})])
+    old, said = table("group,aspect,telegram", *rows, name="old.csv"), table(content=f"{MESSAGE}; radio\n".encode())
+    named = [row.replace(",red,", ",x,").replace(",green,", ",red,").replace(",x,", ",green,") for row in rows]
+    new = table("group,aspect,telegram", *named, name="new.csv")
+    run("check", old, "--messages", said, "--document", tmp_path / "old.json")
+    assert run("diff", old, new)[0] == 1
+    note = (
+        "a document has no names, so aspects and messages are paired by their order: names that were exchanged or "
+        "given anew are not compared"
+    )
+    outputs = ("--json", tmp_path / "d.json", "--html", tmp_path / "d.html", "--force")
+    for words in (
+        (tmp_path / "old.json", new, "--new-messages", said),
+        (new, tmp_path / "old.json", "--old-messages", said),
+    ):
+        status, out, _ = run("diff", *words, *outputs)
+        assert status == 0 and f"note: {note}" in out and out[-1].endswith("findings new 0, gone 0"), out
+        assert note in json.loads((tmp_path / "d.json").read_text("utf-8"))["notes"]
+        assert note in (tmp_path / "d.html").read_text("utf-8")

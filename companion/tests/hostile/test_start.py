@@ -146,7 +146,7 @@ def limited(command: str, limit: str, folder: Path, **settings: str) -> Tuple[in
     user = [] if os.getuid() else "setpriv --reuid=65534 --clear-groups --inh-caps=+dac_override".split()
     user += [] if os.getuid() else ["--ambient-caps=+dac_override"]
     known = {**os.environ, "BALISEKIT_PYTHON": str(DEBIAN), **settings}
-    done = subprocess.run([*user, *words], env=known, cwd=folder, capture_output=True, check=False)
+    done = subprocess.run([*user, *words], env=known, cwd=folder, capture_output=True, check=False, timeout=100)
     return done.returncode, done.stdout.decode(), done.stderr.decode()
 
 
@@ -168,6 +168,9 @@ def test_too_little_memory(limit: str, named: str, command: str, tmp_path: Path)
     status, out, err = limited(command, limit, tmp_path, BALISEKIT_PYTHON=named)
     assert status in ((3,) if limit < "-v 22000" else (0, 3)), (status, out, err)
     assert status == 0 or err.splitlines()[-1].startswith("balisekit: ") and not out
+    if limit in ("-v 22000", "-d 9000"):
+        name, number = limit.split()
+        assert err.startswith(f"balisekit: {number} KB of memory by ulimit {name} are not enough: at least ")
 
 
 @pytest.mark.parametrize("named", ["/bin/true", "/bin/echo", "/bin/cat", "/bin/sh", "true"])
@@ -176,6 +179,42 @@ def test_a_program_that_is_no_interpreter(named: str, tmp_path: Path) -> None:
     status, out, err = start(f"check {LINE}", tmp_path, BALISEKIT_PYTHON=named)
     why = f"balisekit: {named} does not start, and BALISEKIT_PYTHON names a Python 3.9 or later: "
     assert (status, out) == (3, "") and err.startswith(why)
+
+
+@pytest.mark.parametrize("text", ["exit 0", "echo starting", "exec /bin/true", "exec cat"])
+@pytest.mark.parametrize("name", ["python3", "python3.11"])
+def test_a_python3_of_the_path_that_is_no_interpreter(text: str, name: str, tmp_path: Path) -> None:
+    """In a clone and in a wheel, its status 0 is no answer of balisekit."""
+    script = Path(python(tmp_path, f"#!/bin/sh\n{text}\n")).rename(tmp_path / name)
+    if name != "python3":
+        (tmp_path / "python3").symlink_to(script)
+    status, out, err = start(f"check {LINE}", tmp_path)
+    assert (status, out) == (3, "") and err.startswith(f"balisekit: {tmp_path}/python3 does not start: "), err
+    command = layout(tmp_path / "prefix")
+    (command.parent / VERSION).unlink(missing_ok=True)
+    shutil.copy2(script, command.parent / VERSION)
+    status, out, err = start(f"check {LINE}", tmp_path, command=str(command))
+    assert (status, out) == (3, "") and err.startswith(f"balisekit: {command.parent / VERSION} does not start: "), err
+
+
+def test_an_interpreter_is_started_once(tmp_path: Path) -> None:
+    """The one of a folder with its own modules beside it. Only another one is tried first."""
+    times, log = [], tmp_path / "log"
+    (tmp_path / "bin").mkdir()
+    for name in ("python3", VERSION):
+        script = tmp_path / "bin" / name
+        script.write_text(f'#!/bin/sh\necho >>{log}\nexec {sys.executable} "$@"\n', "utf-8")
+        script.chmod(0o755)
+    for is_known in (False, True):
+        log.write_text("", "utf-8")
+        if is_known:
+            (tmp_path / "bin" / "python3").unlink()
+            (tmp_path / "bin" / "python3").symlink_to(VERSION)
+            (tmp_path / "lib" / VERSION).mkdir(parents=True)
+            (tmp_path / "lib" / VERSION / "os.py").touch()
+        assert start(f"check {LINK}", tmp_path / "bin")[0] == 0
+        times.append(len(log.read_text("utf-8")))
+    assert times == [2, 1]
 
 
 @pytest.mark.parametrize("name", ["start.py", "errors.py", "cli/main.py", "cli/signals.py", "__init__.py"])

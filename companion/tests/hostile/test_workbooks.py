@@ -18,9 +18,9 @@ from telegrams import ALONE, OTHER
 
 from balisekit.errors import KitError
 from balisekit.tables import expected, reader as tables
-from balisekit.tables.cells import COVERED, NOT_CALCULATED
+from balisekit.tables.cells import COVERED, NOT_CALCULATED, RECALCULATED
 
-pytest.importorskip("openpyxl")
+get_column_letter = pytest.importorskip("openpyxl").utils.get_column_letter
 sys.path.insert(0, str(Path(__file__).parent))
 from workbooks import HEADING, MAIN, OFFICE, PACKAGE, row, sheet, text, workbook  # noqa: E402  (the path comes first)
 
@@ -346,6 +346,105 @@ def test_values_beside_such_zeros(calculation: str, table: Write) -> None:
     rows = [cell("<f>A1</f><v>7</v>"), cell("<v>0</v>", "C3").replace(">A<", ">B<")]
     read = tables.read(str(table(content=workbook(sheet(KM, *rows), calculation=calculation))))
     assert [str(each.km) for each in read.rows] == ["7.0", "0.0"]
+    assert [note for note in read.notes if "formula" in note] == [RECALCULATED.format(formulas="1 formula", row=2)]
+    read = tables.read(str(table(content=workbook(sheet(X, *rows), calculation=calculation))))
+    assert not any("formula" in note for note in read.notes)  # (the column is not read)
+    rows = [cell("<f>A1</f><v>1</v>", place).replace(ALONE, "N_PIG") for place in ("C2", "C3")]
+    path = table(content=workbook(sheet(row("group", "variable", "raw"), *rows), calculation=calculation))
+    assert RECALCULATED.format(formulas="2 formulas", row=2) in expected.read(str(path)).notes
+
+
+def test_calculated_formulas(table: Write) -> None:
+    """A workbook that a spreadsheet has saved needs no note."""
+    read = tables.read(str(table(content=workbook(sheet(KM, cell("<f>A1</f><v>7</v>"))))))
+    assert [str(each.km) for each in read.rows] == ["7.0"] and not any("formula" in note for note in read.notes)
+
+
+SECOND = f"<t>a1</t><t>{OTHER}</t>"
+ODD_STRINGS = [
+    SECOND,
+    f"<t>a1</t>{OTHER}",
+    f"{OTHER}<t>a1</t>",
+    f"<t>a1<b>{OTHER}</b></t>",
+    f"<t>a1</t><r><t>{OTHER}</t></r>",
+    f"<r>{SECOND}</r>",
+    f"<r><t>a1</t></r><r>{SECOND}</r>",
+    f"<t>a1</t><extLst><ext><y>{OTHER}</y></ext></extLst>",
+    f"<x:AlternateContent xmlns:x='x'><x:Choice><t>{OTHER}</t></x:Choice></x:AlternateContent>",
+]
+
+
+@pytest.mark.parametrize("string", ODD_STRINGS)
+def test_strings_with_two_texts(table: Write, string: str) -> None:
+    """openpyxl takes one of them. A spreadsheet might show the other one."""
+    inline = text("B", "A3") + f"<c r='B3' t='inlineStr'><is>{string}</is></c>"
+    path = table(content=workbook(sheet(HEADING, GOOD, f"<row>{inline}</row>")))
+    assert refusal(path) == "its cell B3 has a text that is not its value: save the workbook again"
+    shared = [("xl/sharedStrings.xml", "sharedStrings", f"<sst xmlns='{MAIN}'><si>{string}</si></sst>")]
+    path = table(content=workbook(sheet(HEADING, GOOD), more=shared))
+    assert refusal(path) == "its shared string 0 has a text that is not its value: save the workbook again"
+
+
+@pytest.mark.parametrize(
+    "string",
+    [
+        f"<t>{OTHER}</t>",
+        f"<r><rPr><b/></rPr><t>{OTHER[:9]}</t></r><r><t xml:space='preserve'>{OTHER[9:]}</t></r>",
+        f"\n <t>{OTHER}</t>\n <rPh sb='0' eb='1'><t>a one</t></rPh><phoneticPr fontId='1'/>",
+    ],
+)
+def test_strings_of_one_text(table: Write, string: str) -> None:
+    """Runs with formats, blanks between the elements and how a text is pronounced do not count."""
+    shared = [("xl/sharedStrings.xml", "sharedStrings", f"<sst xmlns='{MAIN}'><si>{string}</si></sst>")]
+    for own in ("<c t='s'><v>0</v></c>", f"<c t='inlineStr'><is>{string}</is></c>"):
+        read = tables.read(str(table(content=workbook(sheet(HEADING, f"<row>{text('A')}{own}</row>"), more=shared))))
+        assert [each.telegram for each in read.rows] == [OTHER]
+
+
+def test_a_text_like_an_escape(table: Write) -> None:
+    """A spreadsheet stores the text `_x000D_` with its first character as a number: it has no carriage return."""
+    name = "_x005F_x000D_|_x0001_|_x005f_"
+    for own in ("<c t='s'><v>0</v></c>", text(name)):
+        content = workbook(sheet(HEADING, f"<row>{own}{text(ALONE)}</row>"), more=strings(name))
+        assert [each.group for each in tables.read(str(table(content=content))).rows] == ["_x000D_|\x01|_"]
+
+
+@pytest.mark.parametrize("stored", ["1_0", "\u0661\u0660"])
+def test_numbers_that_only_python_reads(table: Write, stored: str) -> None:
+    """No spreadsheet reads 1_0 as 10."""
+    path = table(content=workbook(sheet(KM, cell(f"<v>{stored}</v>"))))
+    assert refusal(path) == f"its cell C2 has {stored}, which is no number: save the workbook again"
+
+
+def test_rows_that_are_formatted_as_a_whole(table: Write) -> None:
+    """Their cells are empty up to the last column of a sheet. Others beyond the greatest number are refused."""
+    cells = "".join(f"<c r='{column}2' s='0'/>" for column in map(get_column_letter, range(3, 1025)))
+    read = tables.read(str(table(content=workbook(sheet(HEADING, f"<row>{text('A')}{text(ALONE)}{cells}</row>")))))
+    assert [each.telegram for each in read.rows] == [ALONE] and not read.passed_over
+    for more in (text("x", "AMK2"), "<c r='AMK2'><f>A1</f></c>"):
+        path = table(content=workbook(sheet(HEADING, f"<row>{text('A')}{text(ALONE)}{cells}{more}</row>")))
+        assert refusal(path) == f"row 2: it has more than 200 columns: {SAVE}"
+
+
+def test_remedies_for_a_workbook_of_expected_variables(table: Write) -> None:
+    """--sheet and --fill-merged are about the table of telegrams."""
+    rows = row("group", "variable", "raw"), row("A", "N_PIG", "0")
+    several = "several sheets have the headings: save the one that is meant as CSV: S1, S2"
+    hidden = "only the hidden sheet S2 has the headings: show it"
+    none = (
+        "row 1: sheet S1: no column variable: the headings are x; give --columns FILE, a text file with the line "
+        'columns = { variable = ".." }; save another sheet as CSV: S2'
+    )
+    both, second, neither = [sheet(*rows)] * 2, [sheet(row("x")), sheet(*rows)], [sheet(row("x")), sheet(row("y"))]
+    for sheets, state, wanted in ((both, "visible", several), (second, "hidden", hidden), (neither, "visible", none)):
+        path = table(content=workbook(*sheets, states=("visible", state)))
+        with pytest.raises(KitError) as raised:
+            expected.read(str(path))
+        assert raised.value.lines() == [f"{path}: {wanted}"]
+    merged = "<mergeCells><mergeCell ref='A2:A3'/></mergeCells>"
+    path = table(content=workbook(sheet(*rows, row("", "NID_BG", "1"), behind=merged)))
+    note = "merged ranges, whose empty cells are read as empty: 1, the first A2:A3; unmerge and fill the cells"
+    assert note in expected.read(str(path)).notes
 
 
 def test_a_zero_that_a_spreadsheet_has_calculated(table: Write) -> None:

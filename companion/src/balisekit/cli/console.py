@@ -6,6 +6,7 @@ import sys
 import threading
 import time
 from contextlib import contextmanager
+from functools import partial
 from typing import Callable, Iterator, Optional, TextIO
 
 STYLES = (
@@ -30,18 +31,23 @@ def writer(stream: TextIO) -> Callable[[str], None]:
     """What writes a line to this stream: with colours to a terminal if rich is there and NO_COLOR is not set."""
     stop()
     if not _is_terminal(stream) or os.environ.get("NO_COLOR"):
-        return lambda line: print(line, file=stream)
+        return partial(_write, stream)
     try:
         from rich.console import Console
         from rich.text import Text
     except Exception:  # (it may be absent or broken, and the lines are the same without it)
-        return lambda line: print(line, file=stream)
+        return partial(_write, stream)
     console = Console(file=stream, highlight=False, soft_wrap=True)
 
     def write(line: str) -> None:
         console.print(Text(line, style(line)))
 
     return write
+
+
+def _write(stream: TextIO, line: str) -> None:
+    """Writes a line at once: `print` writes its end by itself."""
+    stream.write(f"{line}\n")
 
 
 def style(line: str) -> str:

@@ -74,4 +74,4 @@ def _checked(
         answer = program.check(document.content)
         if isinstance(answer, Refusal) and answer.balise is None and answer.message is None:
             raise TableError(f"{document.path}: program: {answer.line}")
-    return checking.check(program, table if named else by_place(table), messages)
+    return checking.check(program, *((table, messages) if named else by_place(table, messages)))

@@ -3,7 +3,7 @@ from __future__ import annotations
 
 import argparse
 import os
-from typing import Collection, Iterable, Iterator, List, Sequence, Union
+from typing import TYPE_CHECKING, Collection, Iterable, Iterator, List, Sequence, Union
 
 from balisekit.cli import settings
 from balisekit.cli.options import EXACT
@@ -11,9 +11,11 @@ from balisekit.io import inputs
 from balisekit.io.output_folder import OutputFolder
 from balisekit.rules.rule import RELEASE_SPEED, Rule
 from balisekit.tables import own_headings
-from balisekit.tables.expected import Expected
 from balisekit.tables.model import Table
 from balisekit.tables.settings import Setting, Settings, Source
+
+if TYPE_CHECKING:  # (only `table` reads such a sheet, and its module needs zip and XML)
+    from balisekit.tables.expected import Expected
 
 _READING = ("sheet", "skip_column", "by_position", "fill_merged")
 GIVEN = (*_READING, "all", "only", "group", "aspect", "full", *settings.KINDS)

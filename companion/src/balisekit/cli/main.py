@@ -21,6 +21,7 @@ COMMANDS = {
     "show": "show each telegram in words",
     "draw": "draw a group, a message or a track as SVG",
     "report": "write a report as one page of HTML",
+    "certify": "make mistakes in a table, and count which of them `check` would find",
     "links": "compare linking, link flags and profiles with the kilometres of a table",
     "diff": "compare two releases of a line, field by field",
     "plan": "write the track plan that the telegrams of a table imply, for you to correct",
@@ -167,11 +168,12 @@ def _run(options: argparse.Namespace, signals: Signals) -> int:
     from balisekit.io.inputs import guarded
     from balisekit.io.output_folder import OutputFolder
     from balisekit.io.outputs import Output, check_outputs, placing
+    from balisekit.tables.decimals import own_context
 
     outputs = [value for value in vars(options).values() if isinstance(value, (Output, OutputFolder))]
     force = getattr(options, "force", False)
     shows = options.command == "check" and not any(output.is_standard_output for output in outputs)
-    with guarded(output.path for output in outputs):
+    with own_context(), guarded(output.path for output in outputs):
         _claim(options, any(os.path.lexists(output.path) for output in outputs))
         check_outputs(outputs, force)
         with placing(outputs, force), console.working(options.command) if shows else nullcontext():

@@ -4,6 +4,7 @@ from __future__ import annotations
 import argparse
 import time
 from dataclasses import replace
+from datetime import date
 from typing import Optional, Sequence, Tuple
 
 from balisekit.cli import options as shared, settings
@@ -21,6 +22,7 @@ from balisekit.rules.stated import refuse_without_kilometres
 from balisekit.tables.model import Messages, Table
 
 Inputs = Tuple[Program, Table, Optional[Messages]]
+Signed = Tuple[accepted.Entries, date]
 ONLY = f"apply only these families of rules: {'; '.join(f'{each.letter}, {each.things}' for each in FAMILIES.values())}"
 
 
@@ -37,14 +39,14 @@ def add_only(parser: argparse.ArgumentParser) -> None:
     parser.add_argument("--only", **shared.value("FAMILIES", families_of, ONLY))
 
 
-def _letters(options: argparse.Namespace) -> Sequence[str]:
+def letters_of(options: argparse.Namespace) -> Sequence[str]:
     """The families that are asked for: all of them without --only."""
     return options.only or tuple(FAMILIES)
 
 
 def stated(options: argparse.Namespace) -> Options:
     """What the user states of the line. TableError is raised for an option that none of the requested rules uses."""
-    asked = _letters(options)
+    asked = letters_of(options)
     settings.refuse_unused(options, asked)
     line = settings.of_line(options)
     if set(asked) == {PLAN} and line.plan is None:
@@ -54,6 +56,11 @@ def stated(options: argparse.Namespace) -> Options:
     return line
 
 
+def signed_by(options: argparse.Namespace, line: Options) -> Optional[Signed]:
+    """The file of accepted entries, if one is named, and the day by which they are judged."""
+    return (accepted.read(options.accepted, line.added), clock.today()) if options.accepted else None
+
+
 def outcome(options: argparse.Namespace, line: Options, keep: bool = False, inputs: Optional[Inputs] = None) -> Outcome:
     """What the rules find in such a line, and what was accepted by today if there is a file of entries.
 
@@ -61,9 +68,9 @@ def outcome(options: argparse.Namespace, line: Options, keep: bool = False, inpu
     and has the heading that the file of settings states. Without `inputs` those that the options name are read.
     """
     began = time.perf_counter()
-    entries = accepted.read(options.accepted, line.added) if options.accepted else None
+    signed = signed_by(options, line)
     program, table, messages = inputs or shared.inputs(options)
-    asked = _letters(options)
+    asked = letters_of(options)
     known = families(line)
     if all(known[letter].needs_kilometres for letter in asked if letter in known):
         refuse_without_kilometres(table)
@@ -72,7 +79,6 @@ def outcome(options: argparse.Namespace, line: Options, keep: bool = False, inpu
     checked = replace(checked, settings=in_force(options, [table], keys, keep, line.added))
     if keep:
         checked.accepted.keep()
-    signed = (entries, clock.today()) if entries else None
     return apply(checked, asked, line, signed, began)
 
 
@@ -81,4 +87,6 @@ def links_of(outcome: Outcome, options: Options) -> Links:
     for part in outcome.parts:
         if part.applied is not None and L2 in part.applied.results:
             return part.applied
-    return compare(Line.of(outcome.checked, options.jumps), options, [L2])
+    links = compare(Line.of(outcome.checked, options.jumps), options, [L2])
+    links.line.for_pictures()
+    return links

@@ -11,9 +11,11 @@ from balisekit.cli.outcome import add_only, links_of, outcome as outcome_of, sta
 from balisekit.cli.selection import check_aspect
 from balisekit.io import clock
 from balisekit.io.inputs import InputPath
+from balisekit.present.certificate_json import read
 from balisekit.present.opening import from_table, opening
 from balisekit.present.outcome_text import closing_lines
 from balisekit.present.report_page import report_page
+from balisekit.rules.families import PROVED
 from balisekit.tables.names import clean
 
 FULL = "fold nothing: decoded telegrams and groups without findings are printed too"
@@ -27,6 +29,9 @@ def add_options(parser: argparse.ArgumentParser) -> None:
     parser.add_argument("--html", **shared.output_file("the file to write"), required=True)
     shared.add(parser, "--force", "--accepted", "--all", "--aspect")
     parser.add_argument("--full", **shared.flag(FULL))
+    parser.add_argument(
+        "--certificate", **shared.input_file("what `certify --json` wrote of this table, for the cover")
+    )
     add_only(parser)
     settings.add_options(parser)
 
@@ -38,8 +43,10 @@ def run(options: argparse.Namespace) -> int:
     check_aspect(outcome.checked.table, options.aspect)
     command = clean(shlex.join(_command(options)))
     links = links_of(outcome, of_line)
-    links.line.for_pictures()
-    page = report_page(outcome, links, heading, command, now, options.aspect, options.full)
+    if PROVED not in outcome.letters:
+        links.line.findings = {}  # (pictures would show them)
+    certified = read(options.certificate, outcome) if options.certificate else None
+    page = report_page(outcome, links, heading, command, now, options.aspect, options.full, certified)
     options.html.write(page)
     written = f"written: {clean(str(options.html))}"
     shared.say([*opening(outcome.checked, outcome.judged), written, *closing_lines(outcome)], options.html)

@@ -114,7 +114,8 @@ def refuse_unused(options: argparse.Namespace, letters: Sequence[str]) -> None:
 
 def of_line(options: argparse.Namespace) -> Options:
     """What the options and balisekit.toml state. TableError is raised for a value of the file that is none."""
-    stated = {**_of_file(options), **given(options)}
+    of_file, of_command = _of_file(options), given(options)
+    stated = {**of_file, **of_command}
     _look_at_files(options, stated)
     more: Dict[str, Any] = {}
     if "tolerance" in stated:
@@ -132,7 +133,13 @@ def of_line(options: argparse.Namespace) -> Options:
         plan=plan,
         asked=asked,
         added=known,
+        replaced=_replaced(of_file.get("rules_from", ()), of_command.get("rules_from")),
     )
+
+
+def _replaced(of_file: Sequence[str], given: Optional[Sequence[Any]]) -> Tuple[str, ...]:
+    """What a file of settings names in vain, because the command line names other files or packages."""
+    return () if given is None else tuple(each for each in of_file if each not in given)
 
 
 def added(options: argparse.Namespace, stated: Optional[Mapping[str, Any]] = None) -> Tuple[Rule, ...]:

@@ -16,8 +16,9 @@ from balisekit.engine.program import Record
 from balisekit.etcs.differences import Change, differences
 from balisekit.etcs.variables import Form
 from balisekit.rules.checking import Checked, Place, report_on
+from balisekit.tables.document import name_by_place
 from balisekit.tables.grouping import EVERY
-from balisekit.tables.model import Group, Message, Row, Table
+from balisekit.tables.model import Group, Message, Messages, Row, Table
 from balisekit.tables.names import clean, describe_message
 
 BY_ORDER = (3, 14, 15, 16)
@@ -27,6 +28,10 @@ BESIDE_TELEGRAMS = {"name": "balise", "km": "km", "track": "track", "nominal": "
 OTHER_ORDER = (
     "F3, F14, F15 and F16 depend on which group or aspect comes first: the new release was checked for them in the "
     "order of the old release, with additions last"
+)
+NO_NAMES = (
+    "a document has no names, so aspects and messages are paired by their order: names that were exchanged or given "
+    "anew are not compared"
 )
 
 
@@ -100,19 +105,23 @@ class Difference:
         into.append(Changed(words, old[0], new[0], tuple(differences(before, after))))
 
 
-def by_place(table: Table) -> Table:
-    """The table with its aspects named by their indices, as those of a document are."""
+def by_place(table: Table, messages: Optional[Messages]) -> Tuple[Table, Optional[Messages]]:
+    """A release with its aspects and messages named by their indices, as those of a document are."""
     groups = []
     for group in table.groups:
         names = [str(place) if len(group.aspects) > 1 else "" for place in range(len(group.aspects))]
         aspects = tuple(aspect._replace(name=name) for name, aspect in zip(names, group.aspects))
         groups.append(replace(group, aspects=aspects))
-    return replace(table, groups=tuple(groups))
+    said = messages.messages if messages else ()
+    numbered = tuple(message._replace(name=name_by_place(place)) for place, message in enumerate(said))
+    return replace(table, groups=tuple(groups)), messages and messages._replace(messages=numbered)
 
 
 def compare(old: Checked, new: Checked, named: bool = True) -> Difference:
     """What differs between two releases. `named` ones are not documents: there are notes on names, km and tracks."""
     answer, differing = Difference(Side(old), Side(new)), []
+    if not named and any(_by_order(side) for side in (old, new)):
+        answer.notes.append(NO_NAMES)
     pairs, removed, added = _paired_groups(answer.old, answer.new, named)
     answer.groups_renumbered, removed, added = renumbered(answer.old, answer.new, removed, added, named)
     answer.groups_removed += map(answer.old.describe, removed)
@@ -135,6 +144,11 @@ def compare(old: Checked, new: Checked, named: bool = True) -> Difference:
     _compare_messages(answer)
     _compare_findings(answer, [*pairs, *others])
     return answer
+
+
+def _by_order(side: Checked) -> bool:
+    """Whether a release has aspects or messages, which are paired by their order if they have no names."""
+    return bool(side.accepted_messages) or any(len(group.aspects) > 1 for group in side.table.groups)
 
 
 def _paired_groups(old: Side, new: Side, named: bool) -> Tuple[Pairs[Group], List[Group], List[Group]]:

@@ -199,7 +199,7 @@ def _number(text: str) -> Optional[Decimal]:
     """The number in a cell, or a kilometre such as 13+850."""
     plain = re.sub(r"(?<=[0-9])\+(?=[0-9]{3})|,", ".", text.strip().replace("\u2212", "-"))
     try:
-        return Decimal(plain)
+        return None if "_" in plain else Decimal(plain)  # (which passes over underscores)
     except InvalidOperation:
         return None
 

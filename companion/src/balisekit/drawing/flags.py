@@ -4,7 +4,7 @@ from __future__ import annotations
 from decimal import Decimal
 from typing import Dict, Iterable, Iterator, List, NamedTuple, Sequence
 
-from balisekit.rules.entries import Entry, track_of
+from balisekit.rules.entries import Entry
 from balisekit.tables.names import clean, listed, quoted
 
 NAMED = 4
@@ -45,7 +45,7 @@ def marks_of(entries: Iterable[Entry], accepted: Iterable[Entry] = ()) -> Iterat
         for entry in some:
             if entry.group is not None and entry.km is not None:
                 quiet = is_accepted or bool(entry.expected)
-                where = track_of(entry.group), entry.km
+                where = entry.group.track, entry.km
                 aspects = f"aspect {listed(list(map(quoted, entry.aspects)), NAMED)}: " if entry.aspects else ""
                 yield Mark(*where, entry.rule, aspects + entry.sentence, entry.rows, entry.group.name, quiet)
 

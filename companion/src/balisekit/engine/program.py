@@ -276,7 +276,7 @@ class Program:
 
     def _shake_hands(self) -> None:
         """Raises NoAnswer if it is not the program whose words this version knows. The runs are side by side."""
-        limit = HANDSHAKE_LIMIT if self.timeout is None else replace(HANDSHAKE_LIMIT, seconds=self.timeout)
+        limit = HANDSHAKE_LIMIT if self.timeout is None else HANDSHAKE_LIMIT._replace(seconds=self.timeout)
         with ExitStack() as stack:
             runs = []
             for words, text, _, _ in HANDSHAKE:

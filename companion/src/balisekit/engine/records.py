@@ -292,11 +292,7 @@ def _first_keys() -> Iterator[str]:
 
 BETWEEN = re.compile(rf',(?={{"(?:{"|".join(sorted(set(_first_keys())))})":)')
 """What is between two packets. No other object of a record begins with one of these keys."""
-RECORD = re.compile(
-    r'\{"m_dup":(\d),"m_mcount":(\d+),"m_version":(\d+),"n_pig":(\d),"n_total":(\d),"nid_bg":(\d+),"nid_c":(\d+),'
-    r'"packets":\[(.*)\],"q_link":(\d),"user_bits":(\d+)\}'
-)
-"""The record of a telegram: the values of its header, and the text of its packets."""
+VALUES = re.compile(":([0-9]+)")
 KEPT_AS_BITS = re.compile('"body":"[^"]*","l_packet":[0-9]+,"nid_packet":([0-9]+)')
 DECODER = json.JSONDecoder()
 
@@ -315,10 +311,20 @@ class Header(NamedTuple):
     user_bits: int
 
 
+@lru_cache(maxsize=KEPT)
+def _values(text: str) -> Tuple[int, ...]:
+    """The numbers of a part of a header. All but those of the identity are the same in most telegrams of a table."""
+    return tuple(map(int, VALUES.findall(text)))
+
+
 def parts(line: str) -> Tuple[Header, str]:
     """The header of a telegram's record that the program has written, and the text of its packets."""
-    *before, packets, q_link, user_bits = RECORD.findall(line)[0]
-    return Header._make(map(int, (*before, q_link, user_bits))), packets
+    before, _, rest = line.partition('"nid_bg":')
+    identity, _, rest = rest.partition(',"packets":[')
+    packets, _, after = rest.rpartition("]")
+    nid_bg, _, nid_c = identity.partition(',"nid_c":')
+    values = *_values(before), int(nid_bg), int(nid_c), *_values(after)
+    return Header(*values), packets
 
 
 def packet_texts(packets: str) -> List[str]:

@@ -5,9 +5,8 @@ import os
 import select
 import signal
 import time
-from dataclasses import dataclass, field
 from threading import Event
-from typing import IO, Iterator, List, Optional, Sequence
+from typing import IO, Iterator, List, NamedTuple, Optional, Sequence
 
 from balisekit.errors import NoAnswer
 
@@ -23,13 +22,12 @@ DEFAULT_SIGNALS = (signal.SIGPIPE, signal.SIGXFSZ)
 """Signals that Python ignores, and its children must not."""
 
 
-@dataclass(frozen=True)
-class Limit:
+class Limit(NamedTuple):
     """For how many seconds the program may keep balisekit waiting, and how many bytes it may write."""
 
     seconds: float
     size: Optional[int] = None
-    stop: Event = field(default_factory=Event)
+    stop: Event = Event()
     """Once it is set, all runs with this limit end."""
 
     @classmethod

@@ -32,19 +32,35 @@ PACKET_KEYS: Sequence[Callable[[Values], object]] = (
 """What packets are paired by, and then those that are left."""
 
 
+class PathStep(NamedTuple):
+    """A packet, or a part of it: what it is called, and which item of its list it is."""
+
+    name: str
+    item: Optional[int] = None
+    is_old: bool = False
+    """Whether only the old release has it."""
+
+    def __str__(self) -> str:
+        item = "" if self.item is None else f" {self.item}"
+        return f"{self.name}{item}{' of the old release' if self.is_old else ''}"
+
+
+Where = Tuple[PathStep, ...]
+"""A packet, a part of it, a part of that; nothing in the header."""
+
+
 class Change(NamedTuple):
     """A field that differs, or a part that only one of the two has."""
 
     kind: str
-    where: str
-    """The packet and its part; empty in the header."""
+    where: Where
     name: str = ""
     """The standard's name of the field, if it is one field."""
     old: str = ""
     new: str = ""
 
     def __str__(self) -> str:
-        where = f"{self.where}  " if self.where else ""
+        where = "".join(f"{step}  " for step in self.where)
         if self.kind == MOVED:
             return "the packets stand in another order"
         if self.kind == CHANGED:
@@ -55,7 +71,7 @@ class Change(NamedTuple):
 def differences(old: Form, new: Form) -> List[Change]:
     """All that differs between two forms."""
     before, after = (Around(from_track=form.get("nid_message") != 136) for form in (old, new))
-    changes = list(_object("", old, new, before, after))
+    changes = list(_object((), old, new, before, after))
     pairs = packet_pairs(old["packets"], new["packets"])
     for was, now in pairs:
         if was is None and now is not None:
@@ -66,19 +82,19 @@ def differences(old: Form, new: Form) -> List[Change]:
             packet = new["packets"][now]
             label = f"packet {now} ({_packet_words(packet, after, DIRECTIONS.get(packet.get('q_dir', -1), ''))})"
             packets = _with_contents(old["packets"][was], packet, before, after)
-            changes += _object(label, *packets, before, after)
+            changes += _object((PathStep(label),), *packets, before, after)
     both = [now for _, now in sorted((was, now) for was, now in pairs if was is not None and now is not None)]
-    return [*changes, Change(MOVED, "")] if both != sorted(both) else changes
+    return [*changes, Change(MOVED, ())] if both != sorted(both) else changes
 
 
 def packet_differences(old: Values, new: Values) -> List[Change]:
     """All that differs between two packets from track to train."""
-    return list(_object("", old, new, Around(), Around()))
+    return list(_object((), old, new, Around(), Around()))
 
 
 def _packet_alone(kind: str, place: str, packet: Form, around: Around) -> Change:
     read = with_content(packet, around.from_track, keeps_body=False)
-    return _part(f"{place} ({_packet_words(packet, around)})", kind, read, around)
+    return _part((PathStep(f"{place} ({_packet_words(packet, around)})"),), kind, read, around)
 
 
 def _packet_words(packet: Form, around: Around, direction: str = "") -> str:
@@ -112,7 +128,7 @@ def packet_pairs(old: Sequence[Values], new: Sequence[Values]) -> List[Pair]:
     return sorted(pairs, key=lambda pair: (pair[1] is None, pair[1] or 0, pair[0] or 0))
 
 
-def _object(where: str, old: Values, new: Values, before: Around, after: Around) -> Iterator[Change]:
+def _object(where: Where, old: Values, new: Values, before: Around, after: Around) -> Iterator[Change]:
     """The fields of an object that differ, and what differs in its parts."""
     before, after = before.inside(old), after.inside(new)
     units = [(around.packet.get("q_scale"), around.from_track) for around in (before, after)]
@@ -120,13 +136,13 @@ def _object(where: str, old: Values, new: Values, before: Around, after: Around)
         return
     for key in in_order({*old, *new} - {"packets"}):
         was, now = old.get(key), new.get(key)
-        label = "  ".join(filter(None, [where, LABELS.get(key, key)]))
+        inside = *where, PathStep(LABELS.get(key, key))
         if isinstance(was, list) or isinstance(now, list):
-            yield from _list(label, key, was or [], now or [], before, after)
+            yield from _list(where, key, was or [], now or [], before, after)
         elif isinstance(was, dict) and isinstance(now, dict):
-            yield from _object(label, was, now, before, after)
+            yield from _object(inside, was, now, before, after)
         elif isinstance(was, dict) or isinstance(now, dict):
-            yield _part(label, ADDED, now, after) if was is None else _part(label, REMOVED, was, before)
+            yield _part(inside, ADDED, now, after) if was is None else _part(inside, REMOVED, was, before)
         else:
             values = _value(key, was, before), _value(key, now, after)
             if values[0] != values[1]:
@@ -139,20 +155,21 @@ def _value(key: str, value: Any, around: Around) -> str:
 
 
 def _list(
-    label: str, key: str, old: Sequence[Any], new: Sequence[Any], before: Around, after: Around
+    where: Where, key: str, old: Sequence[Any], new: Sequence[Any], before: Around, after: Around
 ) -> Iterator[Change]:
     """What differs in a list. An item that is no object counts as one with the key of the list."""
+    name = LABELS.get(key, key)
     was_items, now_items = ([item if isinstance(item, dict) else {key: item} for item in items] for items in (old, new))
     for was, now in align(was_items, now_items):
         if was is not None and now is not None:
-            yield from _object(f"{label} {now}", was_items[was], now_items[now], before, after)
+            yield from _object((*where, PathStep(name, now)), was_items[was], now_items[now], before, after)
         elif now is not None:
-            yield _part(f"{label} {now}", ADDED, now_items[now], after)
+            yield _part((*where, PathStep(name, now)), ADDED, now_items[now], after)
         elif was is not None:
-            yield _part(f"{label} {was} of the old release", REMOVED, was_items[was], before)
+            yield _part((*where, PathStep(name, was, is_old=True)), REMOVED, was_items[was], before)
 
 
-def _part(where: str, kind: str, form: Any, around: Around) -> Change:
+def _part(where: Where, kind: str, form: Any, around: Around) -> Change:
     """All values of a part that only one of the two has."""
     text = "  ".join(_texts(form, around))
     return Change(kind, where, "", *((text, "") if kind == REMOVED else ("", text)))

@@ -48,8 +48,13 @@ def unit_dm(packet: Values) -> int:
 @lru_cache(maxsize=1 << 14)
 def metres(distance_dm: int) -> str:
     """A distance of whole decimetres in metres, as "1200 m" or "12.3 m"."""
+    return f"{number_of_metres(distance_dm)} m"
+
+
+def number_of_metres(distance_dm: int) -> str:
+    """The same without its unit."""
     whole, tenth = divmod(abs(distance_dm), 10)
-    return f"{'-' if distance_dm < 0 else ''}{whole}{f'.{tenth}' if tenth else ''} m"
+    return f"{'-' if distance_dm < 0 else ''}{whole}{f'.{tenth}' if tenth else ''}"
 
 
 def named(names: Mapping[int, str], other: str = "spare") -> Words:

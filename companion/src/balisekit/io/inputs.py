@@ -62,6 +62,14 @@ def claimed(path: str) -> str:
     return path
 
 
+def current_folder() -> str:
+    """The folder from which relative paths start, or nothing if it was removed."""
+    try:
+        return os.getcwd()
+    except OSError:
+        return ""
+
+
 def is_python(named: str) -> bool:
     """Whether a text names a file of Python, and not a package."""
     return named.endswith(".py") or os.sep in named

@@ -2,14 +2,13 @@
 from __future__ import annotations
 
 from collections import Counter
-from itertools import repeat
-from typing import Any, Dict, Iterator, List, Optional, Sequence, Tuple
+from typing import Any, Dict, Iterator, List, Optional, Sequence
 
 from balisekit.io import csv_writing
 from balisekit.present.opening import Shown, paths_from
 from balisekit.rules import findings_on_correct_data
 from balisekit.rules.accepted import COLUMNS, UNNAMED, Acceptance, Item, Judged, Key, checksum, keys
-from balisekit.rules.checking import Checked, Place
+from balisekit.rules.checking import Place
 from balisekit.rules.discovery import letter_of
 from balisekit.rules.families import FAMILIES, Outcome
 from balisekit.tables.names import clean
@@ -19,11 +18,6 @@ def accepted_words(entry: Acceptance) -> str:
     """By whom, when and why a finding was accepted."""
     until = f", until {entry.until}" if entry.until else ""
     return f"accepted: {clean(entry.reason)} ({clean(entry.who)}, {entry.date}{until})"
-
-
-def with_entries(checked: Checked, judged: Optional[Judged]) -> Iterator[Tuple[Place, Optional[Acceptance]]]:
-    """Each finding of the program, and the entry that accepts it."""
-    return zip(checked.findings, map(judged.of, checked.findings) if judged else repeat(None))
 
 
 def fault_lines(judged: Judged, shown: Shown = str) -> Iterator[str]:
@@ -81,14 +75,13 @@ def _letter(item: Item) -> str:
 
 def as_json(judged: Judged, outcome: Outcome) -> Dict[str, Any]:
     """The effect of all entries, for other tools."""
-    by_finding = (entry for _, entry in with_entries(outcome.checked, judged if "F" in outcome.letters else None))
     return {
         "path": paths_from(outcome.checked)(judged.entries.path),
         "sha256": judged.entries.sha256,
         "day": str(judged.day),
         "status": outcome.status,
         "counts": counts(judged, outcome.letters),
-        "findings": [None if entry is None else entry_json(entry) for entry in by_finding],
+        "findings": [None if entry is None else entry_json(entry) for entry in map(judged.of, outcome.findings)],
         "at_fault": [{**entry_json(entry), "why": why} for entry, why in judged.faults],
         "not_applied": [entry_json(entry) for entry in judged.passed_over],
     }

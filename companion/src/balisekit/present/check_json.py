@@ -1,6 +1,7 @@
 """The answer of `check` as JSON, for other tools."""
 from __future__ import annotations
 
+from functools import partial
 from typing import Any, Dict, Iterator, Tuple
 
 from balisekit.engine.program import Record
@@ -8,10 +9,10 @@ from balisekit.io.outputs import Json, encode
 from balisekit.present import accepted_text
 from balisekit.present.account_text import account_json
 from balisekit.present.check_text import groups_by_aspects
-from balisekit.present.headings import finding_words, not_decoded
+from balisekit.present.headings import not_decoded
 from balisekit.present.links_text import FORMAT, rules_json
 from balisekit.present.opening import Shown, paths_from, program_json, settings_json
-from balisekit.present.outcome_text import last_lines, not_applied
+from balisekit.present.outcome_text import item_words, last_lines, not_applied
 from balisekit.present.refusals import message_refused, telegram_refused
 from balisekit.rules.checking import Checked, LeftOut, Place, Refused, RefusedMessage
 from balisekit.rules.discovery import letter_of
@@ -31,8 +32,8 @@ def as_json(outcome: Outcome) -> Dict[str, Any]:
         "status": outcome.status,
         "last_line": last_lines(outcome)[-1],
         "families": list(outcome.letters),
-        "not_applied": not_applied(outcome),
-        "verdict" if checked.whole else "rest": checked.verdict.line if checked.verdict else None,
+        "not_applied": not_applied(outcome, paths_from(outcome.checked)),
+        "verdict" if checked.whole else "rest": outcome.verdict.line if outcome.verdict else None,
         **_inputs(checked),
         "account": account_json(outcome),
         "counts": _counts(checked),
@@ -42,7 +43,7 @@ def as_json(outcome: Outcome) -> Dict[str, Any]:
         "refused_messages": map(_refused_message, checked.refused_messages),
         "left_out": map(_left_out, checked.left_out),
         "kept": [group.name for group in checked.kept],
-        "findings": map(_finding, checked.findings),
+        "findings": map(partial(_finding, outcome), outcome.findings),
         "rules": rules_json([part.applied for part in outcome.parts if part.applied]),
         "notes": [note for part in outcome.parts if part.applied for note in part.applied.notes],
         "passed_over": _passed_over(outcome),
@@ -191,7 +192,7 @@ def _left_out(left_out: LeftOut) -> Dict[str, Any]:
     return {"group": left_out.group.name, "rows": rows, "why": left_out.why}
 
 
-def _finding(place: Place) -> Dict[str, Any]:
+def _finding(outcome: Outcome, place: Place) -> Dict[str, Any]:
     finding, row = place.finding, place.row
     return {
         "line": finding.line,
@@ -206,5 +207,5 @@ def _finding(place: Place) -> Dict[str, Any]:
         "message": place.message.number if place.message else None,
         "earlier_group": place.earlier.name if place.earlier else None,
         "differs": str(place.statement),
-        "words": finding_words(place),
+        "words": item_words(outcome, place),
     }

@@ -11,6 +11,7 @@ from balisekit.io import clock
 from balisekit.present import NOT_PROVED, headings
 from balisekit.present.accepted_text import fault_lines
 from balisekit.present.account_text import account_lines
+from balisekit.present.certificate_json import Certified
 from balisekit.present.check_text import aspects_found
 from balisekit.present.links_text import empty_rules
 from balisekit.present.opening import KNOWN, entries_words, paths_from, program_words, settings_words
@@ -58,12 +59,14 @@ class Cover(NamedTuple):
     not_looked_at: Sequence[str]
     account: Sequence[str]
     """What became of the telegrams and messages of the files."""
+    is_proved: bool
+    """Whether the rules F of the program were applied."""
     all_judged: bool
     """Whether each of them was judged or refused."""
     verdict: Verdict
     at_fault: Sequence[str]
     evidence: Optional[Evidence]
-    """None if nothing was handed to the program."""
+    """None if there is no verdict of the program: its rules were not applied, or nothing was handed to it."""
     refused: Sequence[RefusedInput]
     left_out: Sequence[Tuple[str, str]]
     said: Sequence[str]
@@ -75,14 +78,16 @@ class Cover(NamedTuple):
     not_proved: str
 
 
-def cover(outcome: Outcome, heading: ReportHeading, command: str, now: datetime) -> Cover:
-    """The cover of a report on an outcome. `command` begins the command that writes the document again."""
+def cover(
+    outcome: Outcome, heading: ReportHeading, command: str, now: datetime, certified: Optional[Certified] = None
+) -> Cover:
+    """The cover of a report on an outcome. `command` begins the command that writes the document again.
+
+    `certified` is a certificate of this very check.
+    """
     checked, judged, table = outcome.checked, outcome.judged, outcome.checked.table
     shown = paths_from(checked)
-    rows = [("project", heading.project), ("table", shown(table.path)), ("revision", heading.revision)]
-    rows += [("date", clock.stamp(now)), ("author", heading.author), ("program", program_words(checked.program))]
-    rows += [("settings", settings_words(checked.settings, shown))]
-    rows += [("entries", entries_words(judged, shown))] if judged else []
+    rows = [*_heading(outcome, heading, now), *([("certificate", certified.last_line)] if certified else [])]
     faults = list(fault_lines(judged, shown)) if judged else []
     return Cover(
         clean(heading.project or shown(table.path)),
@@ -90,18 +95,28 @@ def cover(outcome: Outcome, heading: ReportHeading, command: str, now: datetime)
         list(map(clean, heading.signatures)),
         [*not_tried(checked), *not_looked_at(outcome)],
         list(account_lines(outcome)),
+        PROVED in outcome.letters,
         not (outcome.account.not_judged or outcome.account_of_messages and outcome.account_of_messages.not_judged),
         _verdict(outcome, last_lines(outcome)),
         [*faults, *(unnamed_lines(outcome) if judged else ())],
-        _evidence(checked, command),
+        _evidence(outcome, command),
         list(refused(checked)),
         [(describe_group(each.group), clean(each.why)) for each in checked.left_out],
         [f"{aspects_found(table)}. {LACKING}", *remarks(table), *map(_note, table.notes), *passed_over(table)],
-        list(_inputs(checked, judged)),
+        list(_inputs(checked, judged, certified)),
         list(_program(checked)),
         __version__,
         NOT_PROVED,
     )
+
+
+def _heading(outcome: Outcome, heading: ReportHeading, now: datetime) -> Iterator[Tuple[str, str]]:
+    """What the report is about, and what it was made with. A value can be empty."""
+    checked, shown = outcome.checked, paths_from(outcome.checked)
+    yield from (("project", heading.project), ("table", shown(checked.table.path)), ("revision", heading.revision))
+    yield from (("date", clock.stamp(now)), ("author", heading.author), ("program", program_words(checked.program)))
+    yield "settings", settings_words(checked.settings, shown)
+    yield from [("entries", entries_words(outcome.judged, shown))] if outcome.judged else []
 
 
 LACKING = "An aspect that the table lacks was not checked, and nothing else here shows that it is missing."
@@ -129,7 +144,7 @@ def _counts(outcome: Outcome) -> Iterator[str]:
     """What was found and what is missing, in numbers."""
     checked, judged = outcome.checked, outcome.judged
     yield from filter(None, [", ".join(lacking(checked))])
-    yield from (text for part in outcome.parts if part.applied for text in empty_rules(part.applied))
+    yield from (text for part in outcome.parts if part.applied for text in empty_rules(part.applied).values())
     if PROVED in outcome.letters:
         groups = {place.group.name for place in checked.findings if place.group}
         messages = {place.message.number for place in checked.findings if place.message}
@@ -172,18 +187,21 @@ def _not_decoded(checked: Checked) -> Set[Tuple[bool, int]]:
     }
 
 
-def _evidence(checked: Checked, command: str) -> Optional[Evidence]:
+def _evidence(outcome: Outcome, command: str) -> Optional[Evidence]:
     """How the verdict is repeated, if there is one."""
-    if checked.verdict is None:
+    checked = outcome.checked
+    if outcome.verdict is None:
         return None
     content = hashlib.sha256()
     for piece in document(checked.kept, [each.message for each in checked.accepted_messages]):
         content.update(piece.encode("utf-8", "surrogatepass"))
     again = [f"{command} --document {DOCUMENT}", f"sha256sum {DOCUMENT}", f"balisecheck check < {DOCUMENT}"]
-    return Evidence(again, content.hexdigest(), checked.verdict.line)
+    return Evidence(again, content.hexdigest(), outcome.verdict.line)
 
 
-def _inputs(checked: Checked, judged: Optional[Judged]) -> Iterator[Tuple[str, str, str]]:
+def _inputs(
+    checked: Checked, judged: Optional[Judged], certified: Optional[Certified]
+) -> Iterator[Tuple[str, str, str]]:
     """Name, SHA-256 and content of each input."""
     table, messages, entries = checked.table, checked.messages, judged.entries if judged else None
     shown = paths_from(checked)
@@ -193,6 +211,8 @@ def _inputs(checked: Checked, judged: Optional[Judged]) -> Iterator[Tuple[str, s
         yield clean(shown(messages.path)), messages.sha256, f"{len(messages.messages)} radio messages"
     if entries:
         yield clean(shown(entries.path)), entries.sha256, f"{len(entries.entries)} entries of accepted findings"
+    if certified:
+        yield clean(shown(certified.path)), certified.sha256, "the certificate: which mistakes this check would find"
 
 
 def _program(checked: Checked) -> List[Tuple[str, str]]:

@@ -7,7 +7,6 @@ from __future__ import annotations
 import json
 import os
 import re
-from pathlib import Path
 from typing import Dict, Iterable, Iterator, Mapping, NamedTuple, Optional, Sequence, Tuple
 
 from balisekit.rules.discovery import ADDED
@@ -64,6 +63,8 @@ def pages(family: Family) -> Iterator[Tuple[str, Page]]:
 
 def address_of_page(name: str) -> Optional[str]:
     """The address of the file with the page of a rule, if it was installed with this balisekit."""
+    from pathlib import Path  # (only some outputs need it)
+
     tops = Path(__file__).resolve().parents[2:7]
     places = (top / folder / f"{name}.md" for top in tops for folder in FOLDERS)
     return next((place.as_uri() for place in places if place.is_file()), None)
@@ -83,19 +84,18 @@ def page_lines(named: Iterable[Tuple[str, Page]], heads: Sequence[str] = EXPLAIN
     for name, page in named:
         yield f"{name}: {page.title}"
         for head, text in ((head, page.parts[head]) for head in heads if head in page.parts):
-            first, *assumptions = with_assumptions(head, text)
+            first, *items = with_items(head, text)
             yield from textwrap.wrap(first, WIDTH, initial_indent="    ", subsequent_indent="    ")
-            for each in assumptions:
+            for each in items:
                 yield from textwrap.wrap(each, WIDTH, initial_indent="    - ", subsequent_indent="      ")
 
 
-def with_assumptions(head: str, text: str) -> Sequence[str]:
-    """A paragraph of a page with its head, and then each assumption of the rule that makes it a false alarm."""
-    whole = f"{head}. {text}"
-    return ASSUMPTION.split(whole) if head == FALSE_ALARM else [whole]
+def with_items(head: str, text: str) -> Sequence[str]:
+    """A paragraph of a page with its head, and then its items, or each assumption that makes it a false alarm."""
+    first, *items = f"{head}. {text}".split("\n- ")
+    return [*(ASSUMPTION.split(first) if head == FALSE_ALARM else [first]), *items]
 
 
 def _plain(text: str) -> str:
-    """The text in one line, without the marks of links, emphasis and lists."""
-    line = " ".join(re.sub(r"^- ", "", text, flags=re.MULTILINE).split())
-    return re.sub(r"\[([^]]+)\]\([^)]+\)", r"\1", line).replace("*", "")
+    """The text without the marks of links and emphasis. Each of its items is a line."""
+    return re.sub(r"\[([^]]+)\]\([^)]+\)", r"\1", text).replace("*", "")

@@ -6,7 +6,7 @@ from typing import Dict, Iterable, Iterator, List, Sequence
 
 from balisekit.etcs.raw_layouts import layout_of
 from balisekit.rules.checking import Checked, Place
-from balisekit.rules.entries import Entry, entry_of, track_of
+from balisekit.rules.entries import Entry, entry_of
 from balisekit.rules.rule import Urgency
 from balisekit.tables.names import clean, counted, describe_message, kilometre, quoted, rows_words
 
@@ -40,7 +40,7 @@ def about(entry: Entry) -> str:
     if entry.message is not None:
         parts.append(f"message of {describe_message(entry.message)}")
     elif entry.group is not None:
-        track = track_of(entry.group)
+        track = entry.group.track
         parts += [rows_words(entry.rows), clean(entry.group.name)]
         parts += [] if entry.km is None else [f"km {kilometre(entry.km)}"]
         parts += [f"track {clean(track)}"] if track else []

@@ -10,15 +10,15 @@ from __future__ import annotations
 
 import xml.etree.ElementTree as ElementTree
 from collections import Counter
-from typing import Dict, Iterable, Iterator, List, Mapping, NamedTuple, Optional, Sequence, Tuple
+from functools import partial
+from typing import Dict, Iterable, Iterator, List, Mapping, NamedTuple, Sequence, Tuple
 
 from balisekit.present import NOT_PROVED
 from balisekit.present.accepted_text import accepted_words
 from balisekit.present.account_text import not_judged_lines
-from balisekit.present.headings import finding_lines
 from balisekit.present.links_text import empty_rules
 from balisekit.present.opening import Shown, paths_from
-from balisekit.present.outcome_text import Kind, item_words, lines_but
+from balisekit.present.outcome_text import AnswerLine, Kind, item_words, lines_but
 from balisekit.present.refusals import message_refused, refused
 from balisekit.rules.accepted import Item, Judged
 from balisekit.rules.checking import Checked, Place
@@ -50,7 +50,7 @@ def document(outcome: Outcome) -> bytes:
     That of the first one also has the lines that are about no rules.
     """
     suites = [(part, list(_cases(outcome, part))) for part in outcome.parts]
-    shown = paths_from(outcome.checked)
+    shown, answer = paths_from(outcome.checked), lines_but(outcome, *CASES)
     top = ElementTree.Element("testsuites", _numbers([case for _, cases in suites for case in cases]))
     top.set("time", _seconds(sum(part.seconds for part in outcome.parts)))
     for part, cases in suites:
@@ -64,17 +64,17 @@ def document(outcome: Outcome) -> bytes:
                 ElementTree.SubElement(
                     element, case.result, {"message": case.why, "type": case.result}
                 ).text = case.text
-        said = [*_output(outcome, part)]
+        said = [*_output(answer, outcome, part)]
         if said:
             ElementTree.SubElement(suite, "system-out").text = "\n".join([*map(clean, said), NOT_PROVED])
     written: bytes = ElementTree.tostring(top, "utf-8", xml_declaration=True)
     return written + b"\n"
 
 
-def _output(outcome: Outcome, part: Part) -> Iterator[str]:
+def _output(answer: Sequence[AnswerLine], outcome: Outcome, part: Part) -> Iterator[str]:
     """The output of a suite: what is about its rules, and in the first one also what is about none."""
     families = (part.family.letter, *([""] if part is outcome.parts[0] else []))
-    return (line.text for line in lines_but(outcome, *CASES) if line.family in families)
+    return (line.text for line in answer if line.family in families)
 
 
 def _numbers(cases: Sequence[Case]) -> Dict[str, str]:
@@ -88,24 +88,24 @@ def _seconds(time: float) -> str:
 
 def _cases(outcome: Outcome, part: Part) -> Iterator[Case]:
     """The cases of a suite. A refused message is only in the first one."""
-    checked, judged, is_first = outcome.checked, outcome.judged, part is outcome.parts[0]
+    checked, is_first, case_of = outcome.checked, part is outcome.parts[0], partial(_case, outcome)
     items: Dict[object, List[Item]] = {}
     for item in part.items:
         for about in _about(item):
             items.setdefault(about, []).append(item)
     left_out, passed_over = dict(_left_out(checked)), _passed_over(part)
     for group in checked.table.groups:
-        case = _case("group", clean(group.name), items.get(group.name, []), judged, passed_over.get(group.name, ""))
+        case = case_of("group", clean(group.name), items.get(group.name, []), passed_over.get(group.name, ""))
         yield case if case.result == "failure" else left_out.get(group.name, case)
     for accepted in checked.accepted_messages:
         name, number = describe_message(accepted.message), accepted.message.number
-        yield _case("message", name, items.get(number, []), judged, passed_over.get(number, ""))
-    for rule in empty_rules(part.applied) if part.applied else ():
-        yield Case("rule", rule.split(" ", 1)[0], "error", rule)
+        yield case_of("message", name, items.get(number, []), passed_over.get(number, ""))
+    for rule, text in empty_rules(part.applied).items() if part.applied else ():
+        yield Case("rule", rule, "error", text)
     if is_first:
         yield from _not_read(checked)
         yield from _bad_messages(checked)
-        yield from _at_fault(judged, paths_from(checked)) if judged else ()
+        yield from _at_fault(outcome.judged, paths_from(checked)) if outcome.judged else ()
 
 
 def _passed_over(part: Part) -> Mapping[object, str]:
@@ -154,18 +154,21 @@ def _at_fault(judged: Judged, shown: Shown) -> Iterator[Case]:
         yield Case("accepted", f"row {fault.row}", "failure", why, f"{clean(shown(judged.entries.path))}: {why}")
 
 
-def _case(kind: str, name: str, items: Sequence[Item], judged: Optional[Judged], passed_over: str) -> Case:
+def _case(outcome: Outcome, kind: str, name: str, items: Sequence[Item], passed_over: str) -> Case:
     """A group or message that was looked at: what is open of it, else what was accepted or passed over."""
+    judged = outcome.judged
     still_open = [item for item in items if not (judged and judged.of(item))]
     if still_open:
         first = still_open[0]
         words = first.finding.line if isinstance(first, Place) else f"{first.rule}: {first.words}"
         why = f"{len(still_open)} open: {words}"
-        return Case(kind, name, "failure", why, "\n".join(line for item in still_open for line in _lines(item)))
+        return Case(kind, name, "failure", why, "\n".join(line for it in still_open for line in _lines(outcome, it)))
     accepted = (accepted_words(entry) for entry in map(judged.of, items) if entry) if judged else ()
     reasons = [*dict.fromkeys(accepted), *([f"passed over: {passed_over}"] if passed_over else [])]
-    return Case(kind, name, "skipped" * bool(reasons), "; ".join(reasons), "\n".join(map(item_words, items)))
+    text = "\n".join(item_words(outcome, it) for it in items)
+    return Case(kind, name, "skipped" * bool(reasons), "; ".join(reasons), text)
 
 
-def _lines(item: Item) -> List[str]:
-    return finding_lines(item) if isinstance(item, Place) else [item_words(item)]
+def _lines(outcome: Outcome, item: Item) -> List[str]:
+    quoted = [f"    program: {item.finding.line}"] if isinstance(item, Place) else []
+    return [item_words(outcome, item), *quoted]

@@ -56,7 +56,7 @@ def _words(remark: Remark) -> str:
 
 def last_line(checked: Checked, links: Links) -> str:
     """How many were found and by which rules, and what each rule has compared. It is never a yes."""
-    parts = [*lacking(checked), *empty_rules(links)]
+    parts = [*lacking(checked), *empty_rules(links).values()]
     count = len(checked.table.groups)
     where = "the rest" if lacking(checked) else f"{count} group{'s' * (count != 1)}"
     said = f"links: {found(links, f' of {OF_RULES}')} in {where}; {compared(links)}"
@@ -93,9 +93,9 @@ def how_many_compared(links: Links) -> str:
     return f"{looked_at} compared" + (f", {sum(skipped.values())} not ({reasons})" if reasons else "")
 
 
-def empty_rules(links: Links) -> List[str]:
-    """The rules that have compared nothing, and why."""
-    return [_empty(rule, links.results[rule]) for rule in links.empty]
+def empty_rules(links: Links) -> Dict[str, str]:
+    """By its name, what is said of each rule that has compared nothing, and why."""
+    return {rule.name: _empty(rule, links.results[rule]) for rule in links.empty}
 
 
 def _empty(rule: Rule, result: Result) -> str:

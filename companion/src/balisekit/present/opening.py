@@ -32,14 +32,14 @@ Shown = Callable[[str], str]
 """How a path is shown."""
 
 
-def from_table(table: str, path: str) -> str:
-    """The path of a file from the folder of the table."""
-    return os.path.relpath(path, os.path.dirname(table) or os.curdir)
+def from_table(table: str, path: str, folder: str = "") -> str:
+    """The path of a file from the folder of the table. Both start from this folder, or else from the current one."""
+    return os.path.relpath(os.path.join(folder, path), os.path.join(folder, os.path.dirname(table) or os.curdir))
 
 
 def paths_from(checked: Checked) -> Shown:
     """Shows paths from the folder of the table that was checked."""
-    return partial(from_table, checked.table.path)
+    return partial(from_table, checked.table.path, folder=checked.table.folder)
 
 
 def opening(checked: Checked, judged: Optional[Judged] = None, shown: Shown = str) -> Iterator[str]:

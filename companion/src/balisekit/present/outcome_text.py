@@ -4,6 +4,7 @@ from __future__ import annotations
 from enum import Enum
 from typing import Iterable, Iterator, List, NamedTuple, Optional, Sequence, Tuple
 
+from balisekit.io.inputs import is_python
 from balisekit.present import headings
 from balisekit.present.account_text import account_lines
 from balisekit.present.accepted_text import accepted_words, fault_lines, verdict_lines
@@ -16,8 +17,8 @@ from balisekit.rules.accepted import UNNAMED, Item, keys
 from balisekit.rules.applied import Applied
 from balisekit.rules.checking import Place
 from balisekit.rules.discovery import ADDED
-from balisekit.rules.entries import Entry, entry_of
-from balisekit.rules.families import PLAN, PROVED, Outcome, Part, entry_of_remark
+from balisekit.rules.entries import Entry
+from balisekit.rules.families import PLAN, PROVED, Outcome, Part
 from balisekit.rules.remarks import remarks
 from balisekit.tables.names import clean, notes_on
 
@@ -86,13 +87,19 @@ def without_reasons(some: Iterable[AnswerLine]) -> Iterator[str]:
 
 def lines_but(outcome: Outcome, *others: Kind) -> List[AnswerLine]:
     """The lines of these kinds are shown otherwise by an output for tools. It has all other lines as they are."""
-    return [line for line in answer(outcome, paths_from(outcome.checked)) if line.kind not in (Kind.TITLE, *others)]
+    shown, has_entries = paths_from(outcome.checked), Kind.ENTRY not in others
+    return [each for each in answer(outcome, shown, has_entries=has_entries) if each.kind not in (Kind.TITLE, *others)]
 
 
 def answer(
-    outcome: Outcome, shown: Shown, explained: bool = False, proposed: bool = False, notes: Sequence[str] = ()
+    outcome: Outcome,
+    shown: Shown,
+    explained: bool = False,
+    proposed: bool = False,
+    notes: Sequence[str] = (),
+    has_entries: bool = True,
 ) -> Iterator[AnswerLine]:
-    """All lines of an answer, with paths as they are `shown`."""
+    """All lines of an answer, with paths as they are `shown`, or those that are about no entry."""
     checked, judged, table = outcome.checked, outcome.judged, outcome.checked.table
     yield AnswerLine(Kind.HEAD, head_line(table, shown))
     yield from map(AnswerLine, (Kind.PROGRAM, Kind.SETTINGS, Kind.ACCEPTED), opening(checked, judged, shown))
@@ -103,15 +110,15 @@ def answer(
     for part in outcome.parts:
         if outcome.letters != PROVED:
             yield AnswerLine(Kind.TITLE, f"{part.family.title}:{'' if part.items else ' none'}")
-        yield from _entries(outcome, part)
+        yield from _entries(outcome, part) if has_entries else ()
         yield from behind(outcome, part)
-    yield from _listed(outcome.expected)
+    yield from _listed(outcome.expected) if has_entries else ()
     yield from _of(Kind.PAGE, page_lines(explained_rules(outcome)) if explained else ())
     yield from _of(Kind.NOT_DECODED, not_decoded(outcome))
     yield from _of(Kind.LOOK, remarks(table))
     yield AnswerLine(Kind.ASPECTS, aspects_found(table))
     yield from _of(Kind.UNNAMED, unnamed_lines(outcome) if proposed or judged else ())
-    yield from _of(Kind.NOT_APPLIED, not_applied(outcome))
+    yield from _of(Kind.NOT_APPLIED, not_applied(outcome, shown))
     yield from _of(Kind.DOCUMENT, notes)
     yield from _closing(outcome, shown)
 
@@ -166,10 +173,15 @@ def not_decoded(outcome: Outcome) -> Iterator[str]:
     return headings.not_decoded(outcome.checked)
 
 
-def not_applied(outcome: Outcome) -> List[str]:
+def not_applied(outcome: Outcome, shown: Shown = str) -> List[str]:
     """Which rules were not applied, and why."""
     off = [f"added rules that are off until --rules names them: {', '.join(outcome.off)}"] if outcome.off else []
-    return [*([NO_KILOMETRES] if outcome.without_kilometres else []), *off]
+    names = ", ".join(clean(shown(each) if is_python(each) else each) for each in outcome.replaced)
+    replaced = [f"not applied: {names}, which [check] rules_from names, because --rules-from replaces it"]
+    left = ", ".join(outcome.outside)
+    outside = [f"rules that are not applied because --only leaves out their families: {left}"] if left else []
+    no_kilometres = [NO_KILOMETRES] if outcome.without_kilometres else []
+    return [*no_kilometres, *off, *outside, *(replaced if names else [])]
 
 
 def not_looked_at(outcome: Outcome) -> Iterator[str]:
@@ -197,14 +209,14 @@ def unnamed_lines(outcome: Outcome) -> Iterator[str]:
     judged, named = outcome.judged, zip(outcome.items, keys(outcome.items, outcome.checked))
     unnamed = [item for item, key in named if UNNAMED in key and not (judged and judged.of(item))]
     for item in unnamed[:SHOWN]:
-        yield f"no entry can name {item_words(item)} ({_why_unnamed(item)})"
+        yield f"no entry can name {item_words(outcome, item)} ({_why_unnamed(item)})"
     if len(unnamed) > SHOWN:
         yield f"no entry can name {len(unnamed) - SHOWN} more"
 
 
-def item_words(item: Item) -> str:
+def item_words(outcome: Outcome, item: Item) -> str:
     """A finding or a remark in one line."""
-    return headings.words(entry_of(item) if isinstance(item, Place) else entry_of_remark(item))
+    return headings.words(outcome.entry_of(item))
 
 
 def _why_unnamed(item: Item) -> str:
@@ -236,7 +248,7 @@ def verdict(outcome: Outcome) -> str:
     track plan: then it counts what was compared with it.
     """
     checked = outcome.checked
-    empty = [text for part in outcome.parts if part.applied for text in empty_rules(part.applied)]
+    empty = [text for part in outcome.parts if part.applied for text in empty_rules(part.applied).values()]
     said = [part for part in outcome.parts if part.items or PROVED not in outcome.letters or part.family.letter == PLAN]
     others = [_found(part, part.applied) for part in said if part.applied]
     if PROVED in outcome.letters:

@@ -37,7 +37,6 @@ from balisekit.present.report import Listed, packets_of
 from balisekit.present.telegram_parts import Said, telegram_words
 from balisekit.rules.checking import AcceptedMessage, Checked, Telegrams
 from balisekit.rules.discovery import letter_of
-from balisekit.rules.entries import track_of
 from balisekit.rules.line import Line
 from balisekit.rules.location import BaliseGroup
 from balisekit.tables.model import Group
@@ -192,7 +191,7 @@ def _block(
         not station.unread,
         "{}/{}".format(*station.identity) if station.identity else "",
         "" if station.km is None else kilometre(station.km),
-        clean(track_of(group)),
+        clean(group.track),
         "",
         str(station.balises),
         len(group.aspects),
@@ -215,7 +214,7 @@ def _body(content: BodyContent, where: Kilometres, has_picture: bool) -> Tuple[B
 
 def _own_words(id: str, group: Group, body: Body) -> Iterator[str]:
     """The words for the holes of a body, escaped."""
-    track, rows = track_of(group), {row.number: row for row in group.rows()}
+    track, rows = group.track, {row.number: row for row in group.rows()}
     yield from (id, escaped(clean(group.name)))
     for number, n_pig in zip(sorted(rows), body.n_pig):
         row = rows[number]

@@ -13,7 +13,9 @@ from balisekit.drawing.svg import in_page
 from balisekit.drawing.track import track_pictures, tracks_of
 from balisekit.drawing.track_pages import shares
 from balisekit.io.workers import copies, shared
+from balisekit.present.certificate_json import Certified
 from balisekit.present.cover import cover
+from balisekit.present.explanations import with_items
 from balisekit.present.outcome_text import explained_rules
 from balisekit.present.pages import pieces, premises
 from balisekit.present.report import ListedPart, listed
@@ -39,6 +41,7 @@ def report_page(
     now: datetime,
     aspect: Optional[str] = None,
     full: bool = False,
+    certified: Optional[Certified] = None,
 ) -> Iterator[str]:
     """The page in pieces. A full one has nothing folded.
 
@@ -48,7 +51,7 @@ def report_page(
     works = partial(_groups, outcome, links.line, parts, full), partial(_tracks, links, outcome, aspect)
     several = shared(works, copies(len(links.line.groups)))
     with SpooledTemporaryFile(IN_MEMORY, "w+", encoding="utf-8") as groups, several as (made, drawn):
-        about = cover(outcome, heading, command, now)  # (meanwhile others make the groups)
+        about = cover(outcome, heading, command, now, certified)  # (meanwhile others make the groups)
         noted = [each._replace(html="") for each in made if groups.write(each.html)]
         groups.seek(0)
         yield from pieces(
@@ -58,17 +61,22 @@ def report_page(
             cover=about,
             found=parts,
             explained=list(explained_rules(outcome)),
+            with_items=with_items,
             **_overview(noted),
             parts=iter(partial(groups.read, PIECE), ""),
             aspect=aspect,
             full=full,
-            has_tracks=bool(names),
-            has_names=any(names),
+            **_of_tracks(names),
             tracks=((clean(name), map(itemgetter(1), some)) for name, some in groupby(drawn, itemgetter(0))),
             legend=LEGEND,
             premises=premises(),
             links_rule=DISTANCE,
         )
+
+
+def _of_tracks(names: Sequence[str]) -> Dict[str, object]:
+    """Whether there are tracks, and whether they have names, for the template."""
+    return {"has_tracks": bool(names), "has_names": any(names)}
 
 
 def _overview(noted: List[Made]) -> Dict[str, object]:

@@ -1,6 +1,7 @@
 """The answer of `check` as SARIF 2.1.0 (OASIS), by which code hosts show what was found at the rows of a table.
 
-A result is an entry of `check`, a telegram or message that was refused or is not read, or an accepted entry at fault.
+A result is an entry of `check`, a telegram or message that was refused or is not read, a rule that compared nothing, or
+an accepted entry at fault.
 What was accepted is suppressed, with its reason. The fingerprint of a result is made of its rule and of what names it
 in a file of accepted findings, so that it survives new rows. All other lines of the answer are notifications.
 """
@@ -9,6 +10,7 @@ from __future__ import annotations
 import hashlib
 import os
 from collections import Counter
+from functools import lru_cache
 from pathlib import Path
 from typing import Any, Dict, Iterator, List, Optional, Sequence, Tuple
 from urllib.parse import quote
@@ -20,6 +22,7 @@ from balisekit.present.accepted_text import accepted_words
 from balisekit.present.account_text import account_json, not_judged_lines
 from balisekit.present.explanations import Page, address_of_page, pages
 from balisekit.present.headings import entry_lines
+from balisekit.present.links_text import empty_rules
 from balisekit.present.opening import paths_from, settings_json
 from balisekit.present.outcome_text import Kind, lines_but
 from balisekit.present.refusals import message_refused, refused
@@ -50,6 +53,12 @@ NOT_JUDGED = "not-judged"
 NOT_JUDGED_PAGE = Page("telegrams that are not judged", {"How to correct it": "See the account in docs/commands.md."})
 SENTENCE = "sentence"
 """The identifier of the template of an added rule."""
+NOT_COMPARED = "not-compared"
+"""The identifier of a result for a rule that compared nothing of what it had to."""
+NOT_COMPARED_PAGE = Page(
+    "a rule that compared nothing",
+    {"How to correct it": "The result has the reason: correct the table or the plan, or omit the family by --only."},
+)
 AT_FAULT = "entry-at-fault"
 """The identifier of a result for an entry of the file of accepted findings that accepts nothing."""
 AT_FAULT_PAGE = Page("an accepted entry at fault", {"How to correct it": "See accepted findings in docs/guide.md."})
@@ -67,7 +76,8 @@ def document(outcome: Outcome) -> Object:
     rules = [{**_rule(name, page), **_added(added.get(name))} for name, page in _pages(outcome)]
     numbers = {rule["id"]: number for number, rule in enumerate(rules)}
     lines = _lines(outcome)
-    results = [*_refused(outcome, lines), *_not_read(outcome, lines), *_at_fault(outcome), *_entries(outcome, lines)]
+    lacking = [*_refused(outcome, lines), *_not_read(outcome, lines), *_not_compared(outcome, lines)]
+    results = [*lacking, *_at_fault(outcome), *_entries(outcome, lines)]
     seen: Counter[str] = Counter()
     for result in results:
         result["ruleIndex"] = numbers[result["ruleId"]]
@@ -107,6 +117,7 @@ def _invocation(outcome: Outcome) -> Object:
 def _pages(outcome: Outcome) -> Iterator[Tuple[str, Page]]:
     yield REFUSED, REFUSED_PAGE
     yield NOT_JUDGED, NOT_JUDGED_PAGE
+    yield NOT_COMPARED, NOT_COMPARED_PAGE
     yield AT_FAULT, AT_FAULT_PAGE
     for part in outcome.parts:
         yield from pages(part.family)
@@ -162,6 +173,15 @@ def _not_read(outcome: Outcome, lines: Lines) -> Iterator[Object]:
             (text,) = not_judged_lines([each])
             location = _location(table.path, each.rows, lines)
             yield _result(NOT_JUDGED, "error", text, [location], f"{each.sheet} {each.column}")
+
+
+def _not_compared(outcome: Outcome, lines: Lines) -> Iterator[Object]:
+    """A result for each rule that compared nothing, at all rows of the table."""
+    table = outcome.checked.table
+    location = _location(table.path, [row.number for row in table.rows], lines)
+    for part in outcome.parts:
+        for text in empty_rules(part.applied) if part.applied else ():
+            yield _result(NOT_COMPARED, "error", text, [location], text.split(" ", 1)[0])
 
 
 def _at_fault(outcome: Outcome) -> Iterator[Object]:
@@ -221,13 +241,18 @@ def _location(path: str, rows: Sequence[int], lines: Lines = (), group: str = ""
     first, last = min(rows, default=1), max(rows, default=1)
     if lines:
         first, last = lines[first - 1][0], lines[last - 1][1]
-    inside = os.path.relpath(path)  # (code hosts need a path from the top of the repository, where jobs run)
+    region = {"startLine": first, "endLine": last}
+    place: Object = {"physicalLocation": {"artifactLocation": _file(path, os.getcwd()), "region": region}}
+    return {**place, "logicalLocations": [{"name": clean(group), "kind": "object"}]} if group else place
+
+
+@lru_cache
+def _file(path: str, folder: str) -> Object:
+    """A file, by its path from the folder in which the command runs, if it is inside: code hosts need that."""
+    inside = os.path.relpath(path, folder)
     path = path if inside.startswith(os.pardir) else inside
     is_relative = not os.path.isabs(path)
-    uri = {"uri": quote(path), "uriBaseId": "%SRCROOT%"} if is_relative else {"uri": Path(path).as_uri()}
-    region = {"startLine": first, "endLine": last}
-    place: Object = {"physicalLocation": {"artifactLocation": uri, "region": region}}
-    return {**place, "logicalLocations": [{"name": clean(group), "kind": "object"}]} if group else place
+    return {"uri": quote(path), "uriBaseId": "%SRCROOT%"} if is_relative else {"uri": Path(path).as_uri()}
 
 
 def _result(rule: str, level: str, text: str, locations: List[Object], stays: str) -> Object:

@@ -38,7 +38,7 @@ from balisekit.rules.facts import place
 from balisekit.rules.rule import Remark, Rule
 from balisekit.tables import csv as csv_file
 from balisekit.tables.cells import headings
-from balisekit.tables.headings import Headings
+from balisekit.tables.headings import Headings, look_at_cells
 from balisekit.tables.model import Group, Message, Row
 from balisekit.tables.names import BLANK, clean
 
@@ -232,11 +232,13 @@ def _entries(rows: Sequence[Sequence[str]], never: Collection[str]) -> Tuple[Acc
     missing = [name for name in NEEDED if name not in heading]
     if missing:
         raise TableError(f"no column {' and no column '.join(missing)}", row=1)
+    places = {name: at for at, name in enumerate(heading) if name}
     entries, faults = [], []
     for number, cells in enumerate(rows[1:], 2):
         if any(cell.strip() for cell in cells):
             try:
-                entries.append(_entry(number, heading, cells, never))
+                look_at_cells(cells, len(heading), places)
+                entries.append(_entry(number, places, cells, never))
             except TableError as fault:
                 fault.row = number
                 faults.append(fault)
@@ -245,10 +247,8 @@ def _entries(rows: Sequence[Sequence[str]], never: Collection[str]) -> Tuple[Acc
     return tuple(entries)
 
 
-def _entry(number: int, heading: Sequence[str], cells: Sequence[str], never: Collection[str]) -> Acceptance:
-    if any(cell.strip() for cell in cells[len(heading) :]):
-        raise TableError(f"it has {len(cells)} cells, and the heading {len(heading)}")
-    found = {name: plain(cell.strip()) for name, cell in zip(heading, cells)}
+def _entry(number: int, places: Mapping[str, int], cells: Sequence[str], never: Collection[str]) -> Acceptance:
+    found = {name: plain(cells[at].strip()) for name, at in places.items() if at < len(cells)}
     values = {name: found.get(name, "") for name in COLUMNS}
     for name, value in values.items():
         if "\n" in value or "\r" in value:
@@ -304,9 +304,8 @@ def keys(items: Iterable[Item], checked: Checked) -> List[Key]:
 def identities(checked: Checked, groups: Iterable[Group]) -> Dict[str, Tuple[int, int]]:
     """NID_C and NID_BG of each of these groups, by its name: those of its first balise in its first aspect."""
     first = {group.aspects[0].rows[0].number: group.name for group in groups}
-    numbers = sorted(number for number in first if number in checked.accepted)
-    forms = ((row, record.form) for row, record in checked.accepted.decoded(numbers))
-    return {first[row.number]: (form["nid_c"], form["nid_bg"]) for row, form in forms}
+    known = checked.accepted.identities(number for number in first if number in checked.accepted)
+    return {name: known[number] for number, name in first.items() if number in known}
 
 
 def _key(item: Item, known: Mapping[str, Tuple[int, int]], names: Mapping[str, int]) -> Key:

@@ -5,10 +5,12 @@ is given a view of the line, whose objects are the rule's own: what it changes i
 """
 from __future__ import annotations
 
+import json
 from copy import deepcopy
 from dataclasses import dataclass
 from decimal import Decimal
 from functools import cached_property
+from itertools import islice
 from typing import (
     Any,
     Callable,
@@ -35,6 +37,8 @@ from balisekit.tables.model import Message, Row
 
 Form = Dict[str, Any]
 """An object of the program's JSON."""
+AT_ONCE = 1000
+"""How many telegrams are read at once."""
 
 
 class AddedRemark(NamedTuple):
@@ -199,10 +203,18 @@ class LineView:
 
 
 def _records(line: Line) -> Iterator[Tuple[Row, Form]]:
-    """The telegrams that the program has read, in the order of the table, each as an object of its own."""
+    """The telegrams that the program has read, in the order of the table, each as an object of its own.
+
+    Several are read at once: their objects then share the texts of their keys, which would take most of the memory.
+    """
     if isinstance(line.forms, Telegrams):
-        yield from ((row, cast(Form, record.form)) for row, record in line.forms.decoded())
-        return
+        rest = line.forms.decoded()
+        while True:
+            part = list(islice(rest, AT_ONCE))
+            forms = json.loads(f"[{','.join(record.line for _, record in part)}]")
+            yield from ((row, form) for (row, _), form in zip(part, forms))
+            if not part:
+                return
     rows = {row.number: row for group in line.table_groups for row in group.rows() if row.number in line.forms}
     yield from ((row, deepcopy(cast(Form, line.forms[number]))) for number, row in rows.items())
 

@@ -23,6 +23,7 @@ from balisekit.rules.discovery import ADDED_NAME
 from balisekit.rules.line import Line
 from balisekit.rules.rule import FALSE_ALARM, Options, Origin, Remark, Result, Rule, Urgency
 from balisekit.rules.template import Template
+from balisekit.tables.decimals import own_context
 from balisekit.tables.names import clean
 
 GROUP = "balisekit.rules"
@@ -186,15 +187,22 @@ def _remark(added: AddedRule, template: Template, origin: Origin, answer: AddedR
 
 @contextmanager
 def failing(origin: str, path: str, what: str) -> Iterator[None]:
-    """An error of added code has its origin and the line. What the code prints goes to standard error."""
+    """An error of added code has its origin and the line. What the code prints goes to standard error.
+
+    Afterwards the current folder and the context of decimal fractions are as before.
+    """
+    folder = inputs.current_folder()
     try:
-        with redirect_stdout(sys.stderr):
+        with redirect_stdout(sys.stderr), own_context():
             yield
     except (KeyboardInterrupt, MemoryError):
         raise
     except BaseException as error:  # (a SystemExit with status 0 would be a green that hides the rest)
         said = f"{what} fails with {type(error).__name__}: {error}"
         raise NoAnswer(f"{origin}, {_line_of(error, path)}: {said}") from error
+    finally:
+        if folder != inputs.current_folder():
+            os.chdir(folder)
 
 
 def _line_of(error: BaseException, path: str) -> str:

@@ -40,7 +40,7 @@ def causes(checked: Checked, findings: Sequence[Place]) -> List[Cause]:
     for look in (_strange, _exchanged):
         some = look(checked, places)
         taken = {place.finding.line for cause in some for place in cause.places}
-        places = [place for place in places if place.finding.line not in taken]
+        places = [place for place in places if place.finding.line not in taken] if taken else places
         found += some
     return list(_with_copies(checked, found + _alike(places)))
 
@@ -48,19 +48,19 @@ def causes(checked: Checked, findings: Sequence[Place]) -> List[Cause]:
 def _alike(places: Sequence[Place]) -> List[Cause]:
     """Findings of one rule and one group or message with the same text are united."""
     without_profiles = _without_profiles(places)
-    same: Dict[Tuple[object, ...], List[Tuple[Place, int, Statement]]] = {}
+    same: Dict[Tuple[int, Tuple[object, ...]], List[Tuple[Place, Statement]]] = {}
     for place in places:
         said = without_profiles.get(_missing_at(place), place.statement)
         rule = place.finding.rule if said is place.statement else NO_GRADIENT
-        key = rule, *_about(place), said.before, said.after, place.correct
-        same.setdefault(key, []).append((place, rule, said))
-    return [Cause(some[0][1], tuple(place for place, _, _ in some), _united(some)) for some in same.values()]
+        about = *_about(place), said.lacking, said.before, said.after, place.correct
+        same.setdefault((rule, about), []).append((place, said))
+    return [Cause(rule, tuple([place for place, _ in some]), _united(some)) for (rule, _), some in same.items()]
 
 
-def _united(some: Sequence[Tuple[Place, int, Statement]]) -> Statement:
+def _united(some: Sequence[Tuple[Place, Statement]]) -> Statement:
     """The statement of the first of these, with the other rows of them all."""
-    others = sorted({row for _, _, said in some for row in said.others})
-    return some[0][2]._replace(others=tuple(others))
+    others = sorted({row for _, said in some for row in said.others})
+    return some[0][1]._replace(others=tuple(others)) if len(some) > 1 else some[0][1]
 
 
 def _about(place: Place) -> Tuple[object, ...]:
@@ -110,7 +110,8 @@ class Order(NamedTuple):
 
 def _exchanged(checked: Checked, places: Sequence[Place]) -> List[Cause]:
     """Balises of a group whose N_PIG are those of each other, and what is not found if they are put in that order."""
-    by_group = _by_group(places)
+    suspects = {place.group.name for place in places if place.group and place.finding.rule == 1}
+    by_group = _by_group(place for place in places if place.group and place.group.name in suspects)
     orders = {name: list(_orders(some)) for name, some in by_group.items()}
     groups = [group for group in checked.kept if orders.get(group.name)]
     left = _left(checked, [_put_in_order(group, orders[group.name]) for group in groups])
@@ -128,11 +129,11 @@ def _orders(places: Sequence[Place]) -> Iterator[Order]:
     """The F1 of a group, by aspects with the same order of balises."""
     by_aspect: Dict[int, List[Place]] = {}
     for place in places:
-        if place.finding.rule == 1 and place.statement.values:
+        if place.finding.rule == 1:
             by_aspect.setdefault(place.finding.aspect or 0, []).append(place)
     alike: Dict[Tuple[Tuple[int, int], ...], List[Place]] = {}
     for some in by_aspect.values():
-        positions = tuple((place.finding.balise or 0, int(place.statement.values["N_PIG"])) for place in some)
+        positions = tuple((place.finding.balise or 0, place.balise.n_pig) for place in some if place.balise)
         if sorted(at for at, _ in positions) == sorted(said for _, said in positions):
             alike.setdefault(positions, []).extend(some)
     yield from (Order(tuple(some), positions) for positions, some in alike.items())
@@ -263,10 +264,10 @@ def _with_copies(checked: Checked, some: Sequence[Cause]) -> Iterator[Cause]:
         if row.telegram.lower() in copies:
             copies[row.telegram.lower()].append(row)
     for index, cause in enumerate(some):
-        said = cause.statement
         for row in suspects.get(index, ()):
-            said = _copied(said, row, [each for each in copies[row.telegram.lower()] if each.group != row.group])
-        yield cause._replace(statement=said)
+            others = [each for each in copies[row.telegram.lower()] if each.group != row.group]
+            cause = cause._replace(statement=_copied(cause.statement, row, others))
+        yield cause
 
 
 def _compared(cause: Cause) -> Iterator[Row]:

@@ -5,7 +5,7 @@ are finer than a decimetre are rounded.
 """
 from __future__ import annotations
 
-from decimal import ROUND_HALF_EVEN, Decimal
+from decimal import Decimal
 from typing import Dict, Iterator, List, Mapping, NamedTuple, Optional, Sequence, Tuple
 
 from balisekit.errors import TableError, TableErrors, faults_of
@@ -15,7 +15,7 @@ from balisekit.io.csv_writing import plain
 from balisekit.tables import csv as csv_file, decimal_commas, reader
 from balisekit.tables.beside import SWALLOWED
 from balisekit.tables.cells import LINE_END, Sheet
-from balisekit.tables.headings import Headings, alike, compared
+from balisekit.tables.headings import Headings, alike, compared, look_at_cells
 from balisekit.tables.names import clean
 
 DECIMETRES = Decimal(10_000)
@@ -50,7 +50,7 @@ def look_at(jumps: Sequence[Jump]) -> None:
 
 def decimetres(km: Decimal) -> int:
     """A kilometre in whole decimetres."""
-    return int((km * DECIMETRES).to_integral_value(ROUND_HALF_EVEN))
+    return round(km * DECIMETRES)
 
 
 class Chainage(NamedTuple):
@@ -110,7 +110,10 @@ class Chainage(NamedTuple):
 def read_jumps(path: str) -> Tuple[Jump, ...]:
     """The jumps of this file. TableError or TableErrors is raised if it cannot be read."""
     with faults_of(path):
-        return tuple(_jumps(csv_file.read(inputs.read_settings(path).content, Headings(COLUMNS, NEEDED))))
+        jumps = tuple(_jumps(csv_file.read(inputs.read_settings(path).content, Headings(COLUMNS, NEEDED))))
+        if not jumps:
+            raise TableError("the file of jumps has no row below its heading")
+    return jumps
 
 
 def _jumps(sheet: Sheet) -> Iterator[Jump]:
@@ -147,13 +150,14 @@ def _look_at_heads(rows: Sequence[Sequence[str]]) -> None:
 
 def _look_at_row(number: int, row: Sequence[str], width: int, places: Mapping[str, int]) -> None:
     """Raises TableError for cells that no column has, and for a line end: a quote may have put rows into a cell."""
-    for at, cell in enumerate(row):
-        if cell.strip() and at >= width:
-            raise TableError(f"it has {len(row)} cells, and the heading {width}", number)
-        if cell.strip() and at not in places.values():
-            raise TableError(f"cell {at + 1} is not empty, and has no heading", number)
+    try:
+        look_at_cells(row, width, places)
+    except TableError as fault:
+        fault.row = number
+        raise
+    for at, cell in enumerate(row, 1):
         if LINE_END.search(cell):
-            raise TableError(f"cell {at + 1} contains a line end: {SWALLOWED}", number)
+            raise TableError(f"cell {at} contains a line end: {SWALLOWED}", number)
 
 
 def _kilometre(cells: Dict[str, str], name: str, number: int) -> Decimal:

@@ -13,7 +13,6 @@ from balisekit.engine.grammar import Finding, Refusal, Verdict
 from balisekit.engine.program import Program, Record, Report
 from balisekit.engine.records import Form, kept_as_bits
 from balisekit.errors import NoAnswer
-from balisekit.etcs.geometry import kilometres
 from balisekit.etcs.places import Identities
 from balisekit.rules.findings_on_correct_data import row_of
 from balisekit.rules.statements import statement
@@ -32,7 +31,6 @@ ENCODE = json.JSONEncoder().encode
 Raw = Dict[Tuple[int, bool], List[int]]
 """The rows, or the lines of a file of messages, by packets that the program keeps as bits: by NID_PACKET, and whether
 they go from track to train."""
-NO_FINDING = Finding("", 0, "")
 Answer = TypeVar("Answer")
 Thing = TypeVar("Thing")
 
@@ -71,6 +69,7 @@ class Telegrams(Mapping[int, Form]):
         self._program = program
         self._rows = {row.number: row for row in rows}
         self._kept: Optional[_Kept] = None
+        self._identities: Dict[int, Tuple[int, int]] = {}
         self.raw: Optional[Raw] = None
         """The packets that are kept as bits, once all telegrams have been decoded."""
 
@@ -93,6 +92,13 @@ class Telegrams(Mapping[int, Form]):
             note_raw(raw, row.number, answer)
             yield row, answer
         self.raw = raw if numbers is None else self.raw
+
+    def identities(self, numbers: Iterable[int]) -> Mapping[int, Tuple[int, int]]:
+        """NID_C and NID_BG of at least these rows. Each is decoded once for all that ask for it."""
+        for row, record in self.decoded(sorted({*numbers} - self._identities.keys())):
+            header, _ = record.parts
+            self._identities[row.number] = header.nid_c, header.nid_bg
+        return self._identities
 
     def raw_packets(self) -> Raw:
         """Those that are kept as bits. If not all telegrams have been decoded yet, they are decoded now."""
@@ -387,14 +393,12 @@ def _correct(scene: Scene) -> str:
     return row_of(scene.finding, scene.aspects)
 
 
-def _scene(groups: Sequence[Group], records: Mapping[int, Record], index: int) -> Scene:
+def _aspects(groups: Sequence[Group], records: Mapping[int, Record], index: int) -> Aspects:
     """All telegrams of a group."""
     group = groups[index]
-    forms = {row.number: records[row.number].form for row in group.rows()}
-    aspects = Aspects(
-        [Balise(row, forms[row.number], place) for place, row in enumerate(aspect.rows)] for aspect in group.aspects
-    )
-    return Scene(NO_FINDING, aspects, [aspect.name for aspect in group.aspects], kilometres(group))
+    forms = {row.number: records[row.number].form for row in group.each_row}
+    aspects = [[Balise(row, forms[row.number], place) for place, row in enumerate(each.rows)] for each in group.aspects]
+    return Aspects(aspects, group)
 
 
 class _Names:
@@ -410,7 +414,7 @@ class _Names:
         rows = {row.number for row in (*heads, *(row for group in groups for row in group.rows()))}
         self._records = {row.number: record for row, record in readable.accepted.decoded(sorted(rows))}
         # (the findings of a group are together; a method of this object would be a cycle)
-        self._scene = lru_cache(maxsize=1)(partial(_scene, readable.kept, self._records))
+        self._aspects = lru_cache(maxsize=1)(partial(_aspects, readable.kept, self._records))
         self._first = list(self._first_groups()) if of_identity else []
         forms = {row.number: self._records[row.number].form for row in heads} if of_messages else {}
         self._identities = Identities(readable.kept, forms)
@@ -426,15 +430,15 @@ class _Names:
         """What one finding is about."""
         if finding.message is not None:
             accepted = self._at(self._readable.accepted_messages, finding.message, finding)
-            self._look_at_packet(accepted.form, finding)
-            where = self._identities.here(accepted.form).kilometres
-            scene = Scene(finding, Aspects([[Balise(None, accepted.form)]]), kilometres=where)
+            form = accepted.form
+            self._look_at_packet(form, finding)
+            scene = Scene(finding, Aspects([[Balise(None, form)]], self._identities.group_of(form)))
             return Place(finding, message=accepted.message, statement=statement(scene), correct=_correct(scene))
         group, aspect, row = self._site(finding)
         earlier = self._first[finding.group or 0] if finding.rule == 14 else None
         if earlier is group:
             raise self._no_answer(finding)
-        scene = self._scene(finding.group or 0)._replace(finding=finding, earlier=earlier)
+        scene = Scene(finding, self._aspects(finding.group or 0), earlier)
         self._look_at_packet(scene.own.form, finding)
         name = None if finding.aspect is None and len(group.aspects) > 1 else aspect.name
         balise = None if row is None else scene.own.name

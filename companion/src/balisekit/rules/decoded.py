@@ -7,6 +7,7 @@ train gets is what it gets if it misses nothing.
 from __future__ import annotations
 
 from bisect import bisect_left
+from collections import defaultdict
 from dataclasses import dataclass, field
 from decimal import ROUND_CEILING, Decimal
 from functools import cached_property, wraps
@@ -20,11 +21,12 @@ from balisekit.rules.chainage import Chainage, Jump
 from balisekit.rules.chains import Chains, chains_of, take_directions
 from balisekit.rules.location import NOT_KNOWN, BaliseGroup, Identity
 from balisekit.rules.passages import GroupData, Passage, passage_of
-from balisekit.rules.telegrams import LINKING, Link, Packet, Telegram, holding, packets_of_message
+from balisekit.rules.telegrams import LINKING, SAYS_NOTHING, Link, Packet, Telegram, holding, packets_of_message
 from balisekit.tables.model import Group, Message
 
 METRES = 3
 """How many decimals a kilometre has that is written to the metre."""
+METRE = Decimal(1).scaleb(-METRES)
 Owner = Union[GroupData, Passage]
 """The group, or the message, that sends a packet."""
 Made = TypeVar("Made")
@@ -165,13 +167,13 @@ def decode(
     jumps: Sequence[Jump] = (),
 ) -> Decoded:
     """The data of these groups, and of the messages 3 among these messages."""
-    by_group: Dict[str, Dict[int, Telegram]] = {}
+    by_group: Dict[str, Dict[int, Telegram]] = defaultdict(dict)
     for telegram in telegrams:
-        by_group.setdefault(telegram.row.group, {})[telegram.row.number] = telegram
+        by_group[telegram.row.group][telegram.row.number] = telegram
     chainages: Dict[str, Chainage] = {}
     made = []
     for number, group in enumerate(groups):
-        own = by_group.get(group.name, {})
+        own = by_group[group.name]
         known = _balise_group(number, group, own)
         chainage = chainages.get(known.track) or chainages.setdefault(known.track, Chainage.of(jumps, known.track))
         known.place = chainage.place(known.km)
@@ -194,9 +196,14 @@ def _balise_group(number: int, group: Group, telegrams: Mapping[int, Telegram]) 
     unread = () if is_read else tuple(sorted({row.number for row in rows} - telegrams.keys()))
     first = telegrams[read[0].number] if read else None
     identity, linked = (first.identity, bool(first.header.q_link)) if first else (None, None)
-    said = [telegram.says for telegram in telegrams.values() if telegram.packets]
-    says = (any([own[0] for own in said]), any([own[1] for own in said])) if said else (False, False)
+    said = [telegram.holding for telegram in telegrams.values() if telegram.packets]
+    says = (_says(own[0] for own in said), _says(own[1] for own in said)) if said else (False, False)
     return BaliseGroup(number, group, balises, identity, linked, km, rising, track, unread, says=says)
+
+
+def _says(packets: Iterable[Sequence[Packet]]) -> bool:
+    """Whether any of these says anything of the track. Packet 0 does not."""
+    return any(packet.number not in SAYS_NOTHING for own in packets for packet in own)
 
 
 class _Links:
@@ -252,4 +259,5 @@ def resolution_of(groups: Sequence[BaliseGroup]) -> int:
     A spreadsheet stores 11.100 as 11.1, so fewer decimals than three do not show that the kilometres are rounded.
     """
     known = (row.km for each in groups for row in each.group.each_row if row.km is not None)
-    return 1 if any(int(km.as_tuple().exponent) < -METRES for km in known) else 10
+    others = (km for km in known if not km.same_quantum(METRE))  # (which takes less time than `as_tuple`)
+    return 1 if any(int(km.as_tuple().exponent) < -METRES for km in others) else 10

@@ -6,7 +6,7 @@ not proved.
 from __future__ import annotations
 
 from decimal import Decimal
-from typing import Any, Collection, Dict, List, Mapping, NamedTuple, Optional, Sequence, Tuple
+from typing import Any, Dict, List, Mapping, NamedTuple, Optional, Sequence, Tuple
 
 from balisekit.rules.causes import Cause, causes
 from balisekit.rules.checking import Checked, Place
@@ -92,23 +92,17 @@ def entries(checked: Checked, places: Optional[Sequence[Place]] = None) -> List[
     for row in checked.table.rows:
         tracks.setdefault(row.track, len(tracks))
     made = [_entry(cause) for cause in causes(checked, checked.findings if places is None else places)]
-    order = {group.name: index for index, group in enumerate(checked.kept)}
-    return sorted(made, key=lambda entry: _order(entry, tracks, order))
+    return sorted(made, key=lambda entry: _order(entry, tracks))
 
 
-def _order(entry: Entry, tracks: Mapping[str, int], groups: Mapping[str, int]) -> Tuple[Any, ...]:
+def _order(entry: Entry, tracks: Mapping[str, int]) -> Tuple[Any, ...]:
     """By what entries are sorted. Groups come before messages, those without a kilometre behind the others."""
-    group, first = entry.group, int(entry.rule[1:])
+    group, place = entry.group, entry.findings[0]
     where: Tuple[Any, ...] = (1, entry.message.number if entry.message else 0)
     if group is not None:
         km = group.aspects[0].rows[0].km
-        where = 0, tracks.get(track_of(group), 0), km is None, km or 0, groups[group.name], entry.rows
-    return (entry.expected != "", entry.urgency, where, first)
-
-
-def track_of(group: Group) -> str:
-    """The track of a group."""
-    return group.track
+        where = 0, tracks.get(group.track, 0), km is None, km or 0, place.finding.group, entry.rows
+    return (entry.expected != "", entry.urgency, where, int(entry.rule[1:]))
 
 
 def entry_of(place: Place) -> Entry:
@@ -119,22 +113,24 @@ def entry_of(place: Place) -> Entry:
 def _entry(cause: Cause) -> Entry:
     """The entry of a cause."""
     places, said, group = cause.places, cause.statement, cause.places[0].group
+    own = [cause.balise.row] if cause.balise else [row for place in places for row in _rows(place)]
+    rows = {row.number: row for row in own if row}
+    numbers = tuple(sorted(rows))
     aspects = {place.aspect for place in places}
-    rows = cause.balise.rows if cause.balise else {row.number for place in places for row in _rows(place)}
     directions = {place.finding.direction for place in places if place.finding.direction}
     balises = {place.finding.balise for place in places}
     names = [cause.balise.name] if cause.balise else [place.balise for place in places if place.balise]
     return Entry(
         f"F{cause.rule}",
-        min(URGENCIES[place.finding.rule] for place in places),
+        min([URGENCIES[place.finding.rule] for place in places]),
         str(said),
-        tuple(sorted(rows)),
+        numbers,
         group,
-        tuple(one.name for one in group.aspects if one.name and one.name in aspects) if group else (),
+        tuple([one.name for one in group.aspects if one.name and one.name in aspects]) if group else (),
         balises.pop() if len(balises) == 1 else None,
         said.packet,
         directions.pop() or "" if len(directions) == 1 else "",
-        kilometre_of(group, rows),
+        rows[numbers[0]].km if numbers else None,
         places[0].message,
         said.values,
         places,
@@ -151,12 +147,6 @@ def _expected(cause: Cause) -> str:
     """
     (case, *others) = {place.correct for place in cause.places}
     return "" if others or case == "earlier group" and cause.statement.others else CORRECT.get(case, "")
-
-
-def kilometre_of(group: Optional[Group], rows: Collection[int]) -> Optional[Decimal]:
-    """The kilometre of the first of these rows."""
-    row = group.row(min(rows, default=0)) if group else None
-    return row.km if row else None
 
 
 def _rows(place: Place) -> Sequence[Row]:

@@ -10,16 +10,17 @@ from datetime import date
 from functools import cached_property, partial
 from typing import Iterator, Mapping, NamedTuple, Optional, Sequence, Tuple
 
+from balisekit.engine.grammar import Verdict
 from balisekit.rules import links, meaning, track_plan
 from balisekit.rules.accepted import RULES, Acceptance, Entries, Item, Judged, identities, judge
 from balisekit.rules.applied import Applied, Notes, look_for, no_notes
 from balisekit.rules.checking import Checked, Place
 from balisekit.rules.discovery import ADDED, first_to_last, letter_of
-from balisekit.rules.entries import Entry, entries, kilometre_of
+from balisekit.rules.entries import Entry, entries, entry_of
 from balisekit.rules.line import Line
 from balisekit.rules.location import Identity
 from balisekit.rules.passed_over import Find, nothing
-from balisekit.rules.rule import Options, Remark, Rule
+from balisekit.rules.rule import Options, Remark, Result, Rule
 from balisekit.rules.statements.scene import BaliseName
 from balisekit.tables.account import Account
 
@@ -119,6 +120,10 @@ class Outcome:
     """Whether rules were not applied, since no row of the table has a kilometre."""
     off: Sequence[str] = ()
     """The added rules that are off, since nobody has asked for them."""
+    replaced: Sequence[str] = ()
+    """The files and packages of [check] rules_from that --rules-from replaces."""
+    outside: Sequence[str] = ()
+    """The rules that somebody has asked for by name, although `--only` leaves out their family."""
 
     def __repr__(self) -> str:
         return f"<Outcome of {self.checked.table.path}: status {self.status}, {len(self.entries)} entries>"
@@ -129,6 +134,16 @@ class Outcome:
         return "".join(part.family.letter for part in self.parts)
 
     @property
+    def verdict(self) -> Optional[Verdict]:
+        """The program's verdict, if the rules F were applied."""
+        return self.checked.verdict if PROVED in self.letters else None
+
+    @property
+    def findings(self) -> Sequence[Place]:
+        """The findings of the program, if the rules F were applied."""
+        return self.checked.findings if PROVED in self.letters else ()
+
+    @cached_property
     def entries(self) -> Sequence[Entry]:
         """The entries of all parts, those of correct data last."""
         return sorted((entry for part in self.parts for entry in part.entries), key=lambda entry: bool(entry.expected))
@@ -150,6 +165,17 @@ class Outcome:
     def identity(self, entry: Entry) -> Optional[Identity]:
         """NID_C and NID_BG of the group of an entry, if they are known."""
         return self._identities.get(entry.group.name) if entry.group else None
+
+    def entry_of(self, item: Item) -> Entry:
+        """The entry of a remark, or of a finding by itself: that of the answer if it has no other, and its words."""
+        if isinstance(item, Remark):
+            return entry_of_remark(item)
+        entry = self._of_one_finding.get(id(item))
+        return entry if entry and entry.sentence == str(item.statement) else entry_of(item)
+
+    @cached_property
+    def _of_one_finding(self) -> Mapping[int, Entry]:
+        return {id(entry.findings[0]): entry for entry in self.entries if len(entry.findings) == 1}
 
     def acceptances(self, entry: Entry) -> Sequence[Acceptance]:
         """Who has accepted an entry."""
@@ -215,8 +241,11 @@ def apply(
     items = [item for part in parts for item in part.items]
     judged = judge(items, checked, *signed, partial(_is_in_full, applied, options)) if signed else None
     applied_rules = {rule.name for family in asked for rule in family.rules}
-    off = [rule.name for rule in options.added if rule.name not in applied_rules]
-    return Outcome(checked, [_with_entries(checked, part, judged) for part in parts], judged, able != asked, off)
+    on = {rule.name for family in known.values() for rule in family.rules}
+    off = [rule.name for rule in options.added if rule.name not in on]
+    outside = sorted((options.asked & on) - applied_rules)
+    found = [_with_entries(checked, part, judged) for part in parts]
+    return Outcome(checked, found, judged, able != asked, off, options.replaced, outside)
 
 
 def families(options: Options) -> Mapping[str, Family]:
@@ -230,7 +259,8 @@ def _is_in_full(applied: Sequence[Family], options: Options, name: str) -> bool:
     rules = {rule.name: rule for family in applied for rule in family.rules}
     if letter_of(name) == PROVED:
         return any(family.letter == PROVED for family in applied)
-    return name in rules and (not rules[name].optional_part or options.asks_for(name))
+    rule = rules.get(name)
+    return rule is not None and rule.find is not _none and (not rule.optional_part or options.asks_for(name))
 
 
 def _asked_for(family: Family, options: Options) -> Family:
@@ -239,8 +269,18 @@ def _asked_for(family: Family, options: Options) -> Family:
 
 
 def _without_kilometres(family: Family) -> Family:
-    """The family with the rules that need no kilometres."""
+    """The family with the rules that need no kilometres. Somebody has named each added rule, so all of these stay."""
+    if family.letter == ADDED:
+        rules = (
+            replace(rule, looks_at="tables", find=_none) if rule.needs_kilometres else rule for rule in family.rules
+        )
+        return family._replace(rules=list(rules))
     return family._replace(rules=[rule for rule in family.rules if not rule.needs_kilometres])
+
+
+def _none(line: Line, options: Options) -> Result:
+    """What an added rule that needs kilometres has looked at: none of one table."""
+    return Result([], 0, {"no row has a kilometre": 1})
 
 
 def _looked_at(checked: Checked, applied: Sequence[Family], options: Options, began: Optional[float]) -> Iterator[Part]:
@@ -253,9 +293,13 @@ def _looked_at(checked: Checked, applied: Sequence[Family], options: Options, be
             continue
         is_first = line is None
         line = line or Line.of(checked, options.jumps)
+        if family.letter == ADDED:
+            line.for_pictures()  # (the views of added rules need memory)
         found = look_for(line, options, family.rules, family.notes, family.passed_over)
         found = replace(found, notes=(*line.not_applied, *found.notes)) if is_first else found
         yield Part(family, found.remarks, time.perf_counter() - begin, found)
+    if line:
+        line.for_pictures()  # (entries need memory)
 
 
 def _with_entries(checked: Checked, part: Part, judged: Optional[Judged]) -> Part:
@@ -280,6 +324,7 @@ def entry_of_remark(remark: Remark) -> Entry:
     where, group, row = remark.location, remark.location.group, remark.location.row
     rows = [row] if row else group.group.rows() if group else []
     numbers = tuple(sorted(remark.rows or {row.number for row in rows}))
+    first = group.group.row(numbers[0]) if group and numbers else None
     aspects = (row.aspect,) if row and row.aspect not in ("", "*") else ()
     name = BaliseName(row.name, where.n_pig) if row and where.n_pig is not None else None
     return Entry(
@@ -292,7 +337,7 @@ def entry_of_remark(remark: Remark) -> Entry:
         group.group.places[row.number] if row and group else None,
         where.number,
         where.direction,
-        kilometre_of(group.group, numbers) if group else None,
+        first.km if first else None,
         where.message,
         {**{name: f"{value:f}" for name, value in remark.values.items()}, **remark.texts},
         remark=remark,

@@ -127,10 +127,11 @@ class Line:
 
     def for_pictures(self) -> None:
         """Works out what pictures need, and lets go of `decoded`, which takes most of the memory."""
-        _ = self.along, self.sent, self.directed
-        for data in self.decoded.groups:
-            data.passages = ()  # (each passage has this object)
-        del self.decoded
+        if "decoded" in vars(self):
+            _ = self.along, self.sent, self.directed
+            for data in self.decoded.groups:
+                data.passages = ()  # (each passage has this object)
+            del self.decoded
 
     @cached_property
     def groups(self) -> Sequence[BaliseGroup]:

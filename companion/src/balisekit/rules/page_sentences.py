@@ -11,7 +11,7 @@ SENTENCES: Mapping[str, str] = {
         "balise. It can also be wrong if the kilometres jump and neither `--jumps` nor the track plan states it. The "
         "same holds if the table has several tracks without names."
     ),
-    "missing": "A missing kilometre can also make it wrong.",
+    "missing": "A missing kilometre can also make the rule wrong.",
     "leaving": (
         "The rule also assumes that trains stay on the track. A train that runs through a loop, or takes a route to "
         "another track, breaks this assumption."
@@ -27,9 +27,8 @@ SENTENCES: Mapping[str, str] = {
         "train runs."
     ),
     "exact": (
-        "The rule assumes that profiles state the values and places of the track. A profile whose elements were merged "
-        "or rounded can differ although it is right. One that is more restrictive on purpose, such as for an overlap, "
-        "can differ too."
+        "The rule assumes that profiles state the values and places of the track. A correct profile can differ if its "
+        "elements were merged or rounded, or if it is more restrictive on purpose, such as for an overlap."
     ),
     "track speed": (
         "The rule assumes that V_STATIC is the speed of the track. That is not so if V_STATIC includes the speed of "

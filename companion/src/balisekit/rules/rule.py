@@ -4,6 +4,7 @@ Each rule has a file of its own, whose docstring is its page. A rule is baliseki
 """
 from __future__ import annotations
 
+import re
 from collections import Counter
 from dataclasses import dataclass
 from decimal import Decimal
@@ -77,8 +78,7 @@ class Urgency(IntEnum):
     """No effect on a train is known; a rule of the standard or of this project is broken."""
 
 
-@dataclass(frozen=True)
-class Options:
+class Options(NamedTuple):
     """What a user says of the line."""
 
     tolerance: Decimal = Decimal()
@@ -97,6 +97,8 @@ class Options:
     """The track plan, for the rules X."""
     added: Tuple[Rule, ...] = ()
     """The rules that the user adds."""
+    replaced: Tuple[str, ...] = ()
+    """The files and packages with rules that the settings name, and in whose place the command line names others."""
 
     @property
     def greatest_speed(self) -> int:
@@ -250,6 +252,10 @@ class Rule:
 
     @cached_property
     def parts(self) -> Dict[str, str]:
-        """The paragraphs of the page after the first line, by their first words: `What it says`, `Why it matters`."""
-        paragraphs = [" ".join(each.split()) for each in filled_in(self.page).split("\n\n")[1:]]
+        """The paragraphs of the page after the first line, by their first words: `What it says`, `Why it matters`.
+
+        A paragraph is one line, and each of its items, which begin with `- `, is a line of its own.
+        """
+        items = (re.split(r"\n(?=- )", each) for each in filled_in(self.page).split("\n\n")[1:])
+        paragraphs = ["\n".join(" ".join(each.split()) for each in some) for some in items]
         return {head: text for head, _, text in (each.partition(". ") for each in paragraphs)}

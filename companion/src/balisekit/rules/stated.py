@@ -1,9 +1,10 @@
 """Values that a user states by options of commands or in Python: TableError is raised for what is none."""
 from __future__ import annotations
 
+import os
 import re
 from decimal import Decimal
-from typing import Optional, Sequence
+from typing import Iterable, Optional, Sequence
 
 from balisekit.errors import TableError
 from balisekit.tables.model import Table
@@ -30,10 +31,32 @@ def name(text: object) -> str:
     return text
 
 
+def path(text: object) -> str:
+    """A path as a text. That of a Python library can be an object."""
+    found = os.fspath(text) if isinstance(text, os.PathLike) else text
+    if not isinstance(found, str):
+        raise TableError(f"{str(text)[:40]} is no path")
+    return name(found)
+
+
+def look_at_list(argument: str, values: object) -> None:
+    """Raises TableError if the value of this argument of Python is no list."""
+    if isinstance(values, str):
+        raise TableError(f"{argument} is one text: write [{values[:40]!r}]")
+    if not isinstance(values, Iterable):
+        raise TableError(f"{argument} is {str(values)[:40]}, and no list")
+
+
+def look_at_switches(**values: object) -> None:
+    """Raises TableError if the value of one of these arguments of Python is neither True nor False."""
+    for argument, value in values.items():
+        if not isinstance(value, bool):
+            raise TableError(f"{argument} is {str(value)[:40]!r}: write True or False")
+
+
 def reading(sheet: Optional[str], columns: Optional[str], skip_columns: Sequence[str]) -> None:
     """Looks at how a table is to be read."""
-    if isinstance(skip_columns, str):
-        raise TableError(f"skip_columns is one text: write [{skip_columns[:40]!r}]")
+    look_at_list("skip_columns", skip_columns)
     for each in (sheet, columns, *skip_columns):
         if each is not None:
             name(each)

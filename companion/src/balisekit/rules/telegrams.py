@@ -5,9 +5,9 @@ A packet says the same in every telegram that has its text, so that each text is
 from __future__ import annotations
 
 import json
-from dataclasses import dataclass, field
+from dataclasses import dataclass
 from functools import cached_property
-from itertools import accumulate
+from itertools import accumulate, chain, islice
 from typing import Callable, Dict, Iterable, Iterator, List, NamedTuple, Optional, Sequence, Tuple, cast
 
 from balisekit.engine.program import Record
@@ -21,6 +21,8 @@ from balisekit.tables.model import Row
 
 LINKING, GRADIENTS, SPEEDS, LEVELS = 5, 21, 27, 41
 AUTHORITIES = (12, 15)
+NONE: Sequence[Sequence[Packet]] = ((), ())
+"""What a telegram without packets says in each of the DIRECTIONS."""
 HOLDING = ((1,), (0,), (0, 1))
 """By Q_DIR: the places in DIRECTIONS of those in which a packet holds. Packet 0, without Q_DIR, holds in both."""
 WITHOUT_DIRECTION = (44, 145, 254)
@@ -146,62 +148,42 @@ class Telegram:
     packets: Sequence[Packet]
     hash: int
     """That of the text of the packets: different packets mostly have different ones."""
+    holding: Sequence[Sequence[Packet]]
+    """The packets that hold in each of the DIRECTIONS."""
 
     @property
     def identity(self) -> Identity:
         """NID_C and NID_BG."""
         return self.header.nid_c, self.header.nid_bg
 
-    @cached_property
-    def holding(self) -> Tuple[Sequence[Packet], ...]:
-        """The packets that hold in each of the DIRECTIONS."""
-        return holding(self.packets)
 
-    @property
-    def says(self) -> Tuple[bool, ...]:
-        """Whether it says anything of the track in each of the DIRECTIONS. Packet 0 does not."""
-        return tuple(any(packet.number not in SAYS_NOTHING for packet in own) for own in self.holding)
-
-
-@dataclass
-class _Known:
-    """The packets that have been decoded, by their texts."""
-
-    forms: Dict[str, Form] = field(default_factory=dict)
-
-    def decode(self, texts: Iterable[str]) -> None:
-        """Decodes those that are not known, together."""
-        if len(self.forms) > KEPT:
-            self.forms.clear()
-        new = [text for text in dict.fromkeys(texts) if text not in self.forms]
-        self.forms.update(zip(new, map(_with_fields, json.loads(f"[{','.join(new)}]"))))
+def _learn(known: Dict[str, Form], texts: Iterable[str]) -> None:
+    """Decodes the packets whose texts are not known, together."""
+    if len(known) > KEPT:
+        known.clear()
+    new = [text for text in dict.fromkeys(texts) if text not in known]
+    known.update(zip(new, map(_with_fields, json.loads(f"[{','.join(new)}]"))))
 
 
 def telegrams_of(records: Iterable[Tuple[Row, Record]]) -> Iterator[Telegram]:
     """The telegrams of these records, decoded in parts."""
-    known = _Known()
-    waiting: List[Tuple[Row, Header, str, List[str]]] = []
-    for row, record in records:
-        header, packets = record.parts
-        waiting.append((row, header, packets, packet_texts(packets)))
-        if len(waiting) == AT_ONCE:
-            yield from _decoded(waiting, known)
-            waiting = []
-    yield from _decoded(waiting, known)
-
-
-def _decoded(waiting: Sequence[Tuple[Row, Header, str, List[str]]], known: _Known) -> Iterator[Telegram]:
-    known.decode(text for _, _, _, texts in waiting for text in texts)
-    for row, header, packets, texts in waiting:
-        made = packets_of([known.forms[text] for text in texts], row, header.n_pig) if texts else ()
-        yield Telegram(row, header, made, hash(packets))
+    known: Dict[str, Form] = {}
+    left = iter(records)
+    while some := list(islice(left, AT_ONCE)):
+        headers, packets = zip(*[record.parts for _, record in some])
+        texts = list(map(packet_texts, packets))
+        _learn(known, chain.from_iterable(texts))
+        for (row, _), header, text, own in zip(some, headers, packets, texts):
+            made = packets_of([known[each] for each in own], row, header.n_pig) if own else ()
+            yield Telegram(row, header, made, hash(text), holding(made) if own else NONE)
 
 
 def telegram_of(row: Row, form: Form) -> Telegram:
     """The telegram of the object of a record."""
     values = cast(Dict[str, int], form)
     header = Header(**{key: values.get(key, 0) for key in Header._fields})
-    return Telegram(row, header, packets_of(list(map(_with_fields, form["packets"])), row, header.n_pig), 0)
+    packets = packets_of(list(map(_with_fields, form["packets"])), row, header.n_pig)
+    return Telegram(row, header, packets, 0, holding(packets))
 
 
 def packets_of(forms: Sequence[Form], row: Optional[Row] = None, n_pig: Optional[int] = None) -> Sequence[Packet]:
@@ -216,7 +198,7 @@ def packets_of_message(form: Form) -> Sequence[Packet]:
 
 def holding(packets: Sequence[Packet]) -> Tuple[Sequence[Packet], ...]:
     """The packets that hold in each of the DIRECTIONS."""
-    own: Tuple[List[Packet], ...] = ([], [])
+    own: Tuple[List[Packet], List[Packet]] = ([], [])
     for packet in packets:
         for index in HOLDING[packet.form.get("q_dir", 2)]:
             own[index].append(packet)

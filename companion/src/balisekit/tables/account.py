@@ -1,7 +1,6 @@
 """The account of a file: each of its telegrams is judged, or refused, or named as not judged."""
 from __future__ import annotations
 
-from dataclasses import dataclass, replace
 from typing import Collection, Iterable, NamedTuple, Optional, Sequence, Tuple
 
 
@@ -22,8 +21,7 @@ class NotJudged(NamedTuple):
     """How many formulas there are instead of telegrams whose values are not stored. Each may be a telegram."""
 
 
-@dataclass(frozen=True)
-class Account:
+class Account(NamedTuple):
     """What became of the telegrams of a table, or of the messages of a file.
 
     The reader begins it. Each later stage that leaves something out gives a new one, which has that too.
@@ -57,12 +55,12 @@ class Account:
 
     def refusing(self, count: int) -> Account:
         """The same with so many more telegrams refused."""
-        return replace(self, refused=self.refused + count)
+        return self._replace(refused=self.refused + count)
 
     def without(self, why: str, rows: Collection[int], asked: bool = False) -> Account:
         """The same with the telegrams of these rows not judged."""
         left_out = NotJudged(why, tuple(sorted(rows)), len(rows), asked, sheet=next(iter(self.sheets), None))
-        return replace(self, not_judged=(*self.not_judged, left_out)) if rows else self
+        return self._replace(not_judged=(*self.not_judged, left_out)) if rows else self
 
 
 def of_rows(numbers: Sequence[int]) -> Account:

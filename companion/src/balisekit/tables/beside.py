@@ -12,7 +12,6 @@ from balisekit.tables.account import Account, NotJudged, elsewhere, of_formulas
 from balisekit.tables.cells import (
     GREATEST_NAME,
     LARGE,
-    LEAST_DIGITS,
     LINE_END,
     NEEDED,
     Sheet,
@@ -20,12 +19,18 @@ from balisekit.tables.cells import (
     has_telegram,
     is_telegram,
     kind_and_text,
+    shared_telegrams,
     telegrams_in,
 )
-from balisekit.tables.headings import compared, shown
+from balisekit.tables.groups_of_digits import LEAST_DIGITS
+from balisekit.tables.headings import KILOMETRE, compared, shown
 
 ABOVE = "it has a telegram, and is not below the headings: put one row with headings above all telegrams"
-COVERED = "merged headings cover its row, and it has digits as a telegram has: unmerge the headings"
+COVERED = "merged headings cover its row, and it has {what}: unmerge the headings"
+OF_COLUMNS = {"telegram": "digits as a telegram has", "km": "a kilometre"}
+"""What a row of the table has in these columns, and the second row of a heading has not."""
+MAY_BE_LARGE = re.compile("[0-9][eE][+0-9]")
+"""What each number has that may be a telegram."""
 SWALLOWED = "is a quote missing, or one too many?"
 SHORT = re.compile("[0-9A-Fa-f]{4,}")
 """What may be a telegram below a heading, and no number of a column."""
@@ -66,12 +71,14 @@ def telegrams(sheet: Sheet, begin: int, column: int) -> Dict[int, List[int]]:
     in_part = partial(has_telegram, separator=sheet.separator)
     faults = [TableError(ABOVE, number) for number, row in heads if any(map(in_part, row))]
     for number, row in enumerate(islice(sheet.rows, begin, None), begin + 1):
-        own = len(row[column]) if column < len(row) else 0
-        text = "".join(row)
-        if len(text) - own < LEAST_DIGITS and "+" not in text:
+        own = row[column] if column < len(row) else ""
+        text = "".join(row).replace(own, "", 1)
+        if len(text) < LEAST_DIGITS and not MAY_BE_LARGE.search(text):
             continue  # (this takes a tenth of the time of the cells one by one)
+        for at in shared_telegrams([*row[:column], "", *row[column + 1 :]]) if len(text) >= LEAST_DIGITS else ():
+            found.setdefault(at, []).append(number)
         for at, cell in enumerate(row):
-            if at == column or len(cell) < LEAST_DIGITS and not LARGE.fullmatch(cell):
+            if at == column or len(cell) < LEAST_DIGITS and not LARGE.search(cell):
                 continue
             count = telegrams_in(cell, sheet.separator)
             if count and LINE_END.search(cell) and not (is_telegram(cell) and not LINE_END.search(cell.strip())):
@@ -83,18 +90,27 @@ def telegrams(sheet: Sheet, begin: int, column: int) -> Dict[int, List[int]]:
     return found
 
 
-def covered_rows(sheet: Sheet, heading: int, begin: int, column: int) -> List[str]:
-    """A note on the rows that merged headings cover. TableErrors is raised for digits in the column of telegrams.
+def covered_rows(sheet: Sheet, heading: int, begin: int, places: Mapping[str, int]) -> List[str]:
+    """A note on the rows that merged headings cover. TableErrors is raised for those that are rows of the table.
 
     The headings are in row `heading` and cover all rows up to `begin`, counted from 1.
     """
-    rows = enumerate(islice(sheet.rows, heading, begin), heading + 1)
-    filled = {number: row for number, row in rows if any(map(str.strip, row))}
-    texts = {number: kind_and_text(row[column])[1] for number, row in filled.items() if column < len(row)}
-    faults = [TableError(COVERED, number, "telegram") for number in texts if SHORT.fullmatch(digits(texts[number]))]
+    notes: List[str] = []
+    faults: List[TableError] = []
+    for number, row in enumerate(islice(sheet.rows, heading, begin), heading + 1):
+        texts = [kind_and_text(cell)[1].strip() for cell in row]
+        own = {name: texts[at] for name, at in places.items() if at < len(texts)}
+        is_numbered = all(map(str.isdecimal, filter(None, texts)))
+        is_row = {
+            "telegram": SHORT.fullmatch(digits(own.get("telegram", ""))),
+            "km": not is_numbered and KILOMETRE.fullmatch(own.get("km", "")),
+        }
+        name = next((name for name, found in is_row.items() if found), "")
+        faults += [TableError(COVERED.format(what=OF_COLUMNS[name]), number, name)] if name else []
+        notes += [f"row {number} is passed over: merged headings cover it"] if any(texts) else []
     if faults:
         raise TableErrors(faults)
-    return [f"row {number} is passed over: merged headings cover it" for number in filled]
+    return notes
 
 
 def account(

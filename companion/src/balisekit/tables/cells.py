@@ -3,12 +3,13 @@ from __future__ import annotations
 
 import re
 import unicodedata
-from itertools import accumulate
-from operator import le
+from itertools import groupby
 from string import hexdigits
-from typing import Collection, Iterable, List, Mapping, NamedTuple, Sequence, Tuple
+from typing import Collection, List, Mapping, NamedTuple, Sequence, Tuple
 
 from balisekit.errors import TableError, TableErrors
+from balisekit.tables import groups_of_digits
+from balisekit.tables.groups_of_digits import LEAST_DIGITS, groups_of, has_stretch
 
 COLUMNS = ("group", "telegram", "name", "km", "track", "aspect", "balise", "nominal")
 """The headings that are known."""
@@ -23,14 +24,18 @@ ERROR = re.compile(r"#[¡¿]?[^\W\d][\w/ ]*[!?]|##+|Loading\.\.\.|[^\W\d_]+\s*:\
 ERROR_IN_CAPITALS = re.compile(r"#[^\W\d_](?:[^\W\d_]|/)[\w/]*")
 """The same in one language or another, if all its letters are capitals: #N/A, #YOK."""
 PAIRS = re.compile(r"[^:-]{2}(?:([:-])[^:-]{2})(?:\1[^:-]{2})*")
-LEAST_DIGITS = 40
-"""How many characters a cell has at least that looks like a telegram. The shortest telegrams have 54."""
 RUN = re.compile("[0-9A-Fa-f]{8}")
 """What is in each text that looks like a telegram, because at most one of ten characters is no digit."""
-SPREAD_RUN = re.compile("(?:[0-9A-Fa-f](?:[^0-9A-Za-z]|0[xX])*){8}")
-"""The same before blanks, separators and 0x between the digits are dropped."""
-LARGE = re.compile(r"\s*[0-9]+(?:[.,][0-9]+)?[eE]\+0*(?:39|[4-9][0-9]|[1-9][0-9]{2})\s*")
-"""A number of at least 40 digits, to which a spreadsheet has shortened a telegram."""
+SPREAD_RUN = re.compile("(?:[0-9A-Fa-f](?:[^0-9A-Za-z]|0[xX]|[xXhH])*){8}")
+"""The same before blanks, separators, 0x and the like between the digits are dropped."""
+LARGE = re.compile(
+    r"(?<![^\W_])(?:[0-9]+(?:[.,][0-9]+)?[eE]\+|[0-9]+[.,][0-9]+[eE])0*(?:39|[4-9][0-9]|[1-9][0-9]{2})(?![^\W_])"
+)
+"""A number of at least 40 digits, to which a spreadsheet has shortened a telegram. Not every tool writes the plus."""
+SHARE = re.compile(r"(?:\0number\0)?(?:=(?=\s*\"))?[\s'\"]*(?:0[xX])?([0-9A-Fa-f]{1,39})[hH]?[\s'\"]*")
+"""A cell that may have a part of a telegram. The text of a formula such as `=B2` is none, but that of `="a1"` is."""
+CHECKSUMS = (40, 64, 96, 128)
+"""How many digits SHA-1, SHA-256, SHA-384 and SHA-512 have. No telegram has so many."""
 LINE_END = re.compile("[\r\n\v\f\x1c-\x1e\x85\u2028\u2029]")
 PARTS = re.compile("[,;|\t\r\n\v\f\x1c-\x1e\x85\u2028\u2029]")
 """What separates cells and rows that a quote has put into one cell."""
@@ -45,6 +50,10 @@ GROUPS_WITHIN = [
 
 COVERED = "a merged cell covers contents of its own, which a spreadsheet does not show: unmerge the cells"
 NOT_CALCULATED = "the values of its formulas are not stored: open the workbook in a spreadsheet, and save it"
+RECALCULATED = (
+    "the workbook leaves its formulas to the spreadsheet that opens it, which may get other values than the stored "
+    "ones that are read: {formulas}, the first in row {row}; open the workbook in a spreadsheet, and save it"
+)
 
 
 class Sheet(NamedTuple):
@@ -69,6 +78,8 @@ class Sheet(NamedTuple):
     """Whether the user has named the sheet."""
     not_calculated: Sequence[Place] = ()
     """Of a workbook: the cells that are empty only because the values of their formulas are not stored."""
+    recalculated: Sequence[Place] = ()
+    """Of a workbook: the cells with formulas whose values are stored, and which a spreadsheet calculates anew."""
 
     @property
     def filled(self) -> Sequence[Area]:
@@ -110,6 +121,12 @@ class Sheet(NamedTuple):
                 faults.append(TableError(NOT_CALCULATED, number, "" if is_empty else names.get(at, "")))
         if faults:
             raise TableErrors(list({str(fault): fault for fault in faults}.values()))
+
+    def notes_on_recalculated(self, heading: int, columns: Collection[int]) -> List[str]:
+        """A note on formulas below the heading, in these columns, that a spreadsheet calculates anew."""
+        rows = [number for number, at in self.recalculated if number > heading and at in columns]
+        formulas = f"{len(rows)} formula{'s' * (len(rows) > 1)}"
+        return [RECALCULATED.format(formulas=formulas, row=rows[0])] if rows else []
 
 
 class Found(NamedTuple):
@@ -165,7 +182,9 @@ def is_telegram(cell: str) -> bool:
     if len(cell) < LEAST_DIGITS:
         return False
     text = digits("".join(kind_and_text(cell)[1].split()))
-    return len(text) >= LEAST_DIGITS and 10 * len(NO_DIGIT.sub("", text)) >= 9 * len(text)
+    if len(text) >= LEAST_DIGITS and 10 * len(NO_DIGIT.sub("", text)) >= 9 * len(text):
+        return True
+    return groups_of_digits.may_be_digits(cell) and groups_of_digits.is_telegram(groups_of(cell))
 
 
 def telegrams_in(cell: str, separator: str = "") -> int:
@@ -174,12 +193,25 @@ def telegrams_in(cell: str, separator: str = "") -> int:
     With line ends it may have any words beside the telegram: rows that a quote has swallowed are in it. `separator` is
     that of the file, which may be another one than those of spreadsheets.
     """
-    if len(cell) < LEAST_DIGITS:
-        return int(bool(LARGE.fullmatch(cell)))
-    if not _may_have_one(cell if cell.isascii() else unicodedata.normalize("NFKC", cell)):
-        return 0  # (this takes a tenth of the time of what follows)
+    numbers = len(LARGE.findall(cell))
+    if len(cell) < LEAST_DIGITS or not _may_have_one(cell if cell.isascii() else unicodedata.normalize("NFKC", cell)):
+        return numbers  # (this takes a tenth of the time of what follows)
     parts = PARTS.split(cell.replace(separator, "\n") if separator else cell)
-    return sum(map(is_telegram, parts)) or int(is_telegram(cell) or has_swallowed(cell))
+    count = sum(map(is_telegram, parts)) or int(is_telegram(cell)) or sum(map(_is_among_words, parts))
+    return count or int(has_swallowed(cell) or _is_among_words(cell)) or numbers
+
+
+def shared_telegrams(row: Sequence[str]) -> List[int]:
+    """The first column of each telegram whose digits neighbouring cells of a row share, counted from 0.
+
+    No cell has enough digits by itself, and none has anything else.
+    """
+    shares = [SHARE.fullmatch(cell) for cell in row]
+    if sum(len(share[1]) for share in shares if share) < LEAST_DIGITS:
+        return []
+    stretches = (list(stretch) for is_one, stretch in groupby(range(len(row)), lambda at: bool(shares[at])) if is_one)
+    groups = ((columns[0], [share[1] for share in (shares[at] for at in columns) if share]) for columns in stretches)
+    return [first for first, digits_of in groups if groups_of_digits.is_telegram(digits_of)]
 
 
 def telegrams_among(text: str) -> int:
@@ -197,6 +229,15 @@ def has_telegram(cell: str, separator: str = "") -> bool:
     return telegrams_in(cell, separator) > 0
 
 
+def _is_among_words(text: str) -> bool:
+    """Whether a text has a telegram between its words, and no line end. Checksums of common lengths are none."""
+    groups = [group for group in groups_of(text) if len(group) not in CHECKSUMS] if len(text) >= LEAST_DIGITS else []
+    stretches = (
+        list(stretch) for are_digits, stretch in groupby(groups, groups_of_digits.DIGITS.issuperset) if are_digits
+    )
+    return any(map(groups_of_digits.is_telegram, stretches))
+
+
 def has_swallowed(cell: str) -> bool:
     """Whether a cell has line ends, and a telegram among other things."""
     return len(cell) >= LEAST_DIGITS and bool(LINE_END.search(cell)) and _is_within(cell)
@@ -207,14 +248,8 @@ def _is_within(text: str) -> bool:
     bare = BETWEEN.sub("", unicodedata.normalize("NFKC", text))
     for groups in GROUPS_WITHIN:
         bare = groups.sub(lambda found: found[0].replace(found[1], ""), bare)
-    return any(len(part) >= LEAST_DIGITS and RUN.search(part) and _has_stretch(part) for part in re.split("[,;]", bare))
-
-
-def _has_stretch(text: str) -> bool:
-    """Whether it has a stretch of at least 40 characters of which nine of ten are digits."""
-    sums = [0, *accumulate(1 if DIGITS.match(each) else -9 for each in text)]
-    least: Iterable[int] = accumulate(sums, min)
-    return any(map(le, least, sums[LEAST_DIGITS:]))
+    parts = (part for part in re.split("[,;]", bare) if len(part) >= LEAST_DIGITS and RUN.search(part))
+    return any(map(has_stretch, parts)) or groups_of_digits.is_within(groups_of(text))
 
 
 def fill_heads(rows: List[List[str]], areas: Sequence[Area]) -> None:

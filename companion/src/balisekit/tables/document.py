@@ -18,6 +18,11 @@ def is_document(content: bytes) -> bool:
     return content.lstrip(b"\xef\xbb\xbf\xff\xfe\0 \t\r\n")[:1] == b"{"
 
 
+def name_by_place(place: int) -> str:
+    """The name of a message, by its index."""
+    return f"message {place}"
+
+
 def read(file: Input) -> Tuple[Table, Messages]:
     """The groups and messages of a document. Its groups, aspects and messages are named by their indices."""
     with faults_of(file.path):
@@ -29,7 +34,7 @@ def read(file: Input) -> Tuple[Table, Messages]:
             form = json.loads(text, object_pairs_hook=_object)
             groups, rows = _groups(form)
             messages = [
-                Message(place + 1, _text(text, f"/messages/{place}"), name=f"message {place}")
+                Message(place + 1, _text(text, f"/messages/{place}"), name=name_by_place(place))
                 for place, text in enumerate(_list(form, "messages", ""))
             ]
             if sorted(form) != ["groups", "messages"]:

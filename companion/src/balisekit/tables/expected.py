@@ -21,7 +21,7 @@ ONE_OF = (("group", "identity"), ("raw", "value"))
 NO_VALUE = "neither raw nor value: there is nothing to compare"
 HAS_SWALLOWED = f"has line ends and a variable in it: {SWALLOWED}"
 OTHER_KINDS = ("date", "truth value")
-VARIABLE = re.compile("[A-Z]+(_[A-Z0-9]+)+|user bits|other data")
+VARIABLE = re.compile(r"[A-Z]+(?:_[A-Z0-9]+)+(?: \([0-9]+\)| of [A-Z_]+)?|user bits|other data|body", re.IGNORECASE)
 """What a cell of the column variable looks like, wherever it is."""
 SEPARATORS = re.compile("[,;\t]")
 THOUSANDS = re.compile("([-+\u2212]?[1-9][0-9]{0,2})[.,]([0-9]{3})(?![0-9.,])")
@@ -132,9 +132,7 @@ def _look_at_stated(found: own_headings.Found, places: Mapping[str, int], row: i
 
 def _look_above(rows: Sequence[Sequence[str]], separator: str) -> None:
     """Raises TableErrors if the rows down to that of the headings have rows of the sheet among or in them."""
-    above = (
-        number for number, row in enumerate(rows[:-1], 1) if any(map(VARIABLE.fullmatch, row)) and _filled(row) > 2
-    )
+    above = (number for number, row in enumerate(rows[:-1], 1) if any(map(_is_variable, row)) and _filled(row) > 2)
     cells = ((number, at, cell) for number, row in enumerate(rows, 1) for at, cell in enumerate(row, 1))
     within = (
         TableError(f"cell {at} {HAS_SWALLOWED}", row) for row, at, cell in cells if _has_swallowed(cell, separator)
@@ -144,12 +142,18 @@ def _look_above(rows: Sequence[Sequence[str]], separator: str) -> None:
         raise TableErrors(faults)
 
 
+def _is_variable(text: str) -> bool:
+    """Whether it looks like the name of a variable, in either case of its letters and with any blanks or quotes."""
+    return bool(VARIABLE.fullmatch(" ".join(text.replace('"', " ").split())))
+
+
 def _filled(row: Sequence[str]) -> int:
     return sum(1 for cell in row if cell.strip())
 
 
 def _notes(sheet: Sheet, place: int, places: Mapping[str, int], used: Set[int]) -> Iterator[str]:
-    """Notes on what is not compared: rows above the headings, columns with unknown headings, and other sheets."""
+    """Notes on formulas, and on what is not compared: rows above the headings, unknown columns, and other sheets."""
+    yield from sheet.notes_on_recalculated(place + 1, places.values())
     if place:
         yield f"the headings of the sheet are in row {place + 1}: what is above them is not compared"
     heads = names_of(sheet.rows[place])
@@ -167,8 +171,7 @@ def _has_swallowed(cell: str, separator: str) -> bool:
     if not LINE_END.search(cell):
         return False
     text = cell.replace(separator, ";") if separator else cell
-    parts = (part.strip(' "') for part in PARTS.split(text))
-    return len(SEPARATORS.findall(text)) > 1 and any(map(VARIABLE.fullmatch, parts))
+    return len(SEPARATORS.findall(text)) > 1 and any(map(_is_variable, PARTS.split(text)))
 
 
 def _opened(content: bytes, headings: Headings) -> Tuple[Sheet, Callable[[], Iterator[List[str]]]]:

@@ -29,6 +29,11 @@ class Headings(NamedTuple):
     strict: bool = False
     """Whether a column has to have its own heading. Otherwise it may have its name as well."""
 
+    @property
+    def has_telegrams(self) -> bool:
+        """Whether they are those of a table of telegrams: the options that choose a sheet and fill cells are for it."""
+        return "telegram" in self.needed
+
     def places(self, row: Sequence[str]) -> Dict[str, int]:
         """Where each column is that the row has a heading for."""
         names, taken = compared(row), set(compared(list(self.own.values())))
@@ -71,7 +76,7 @@ class Headings(NamedTuple):
     def _refusal(self, rows: Sequence[Sequence[str]], place: int) -> TableError:
         """What is missing in the row that should have the headings, and what to type."""
         row, missing = rows[place], self.missing(rows[place])
-        if is_data(row) and "telegram" in self.needed:
+        if is_data(row) and self.has_telegrams:
             return TableError(
                 "there is no heading: the first row has a telegram; put a row with the names of the "
                 f"columns above it; {' and '.join(self.needed)} are needed",
@@ -89,7 +94,7 @@ class Headings(NamedTuple):
         """The line of TOML that names the columns that are missing, and the one that seems to have kilometres."""
         row, missing = rows[place], self.missing(rows[place])
         found = {"telegram": _telegrams_at(rows, place)}
-        if "telegram" in self.needed and "km" not in self.places(row):
+        if self.has_telegrams and "km" not in self.places(row):
             found["km"] = _kilometres_at(rows, place)
         there = {name: at for name, at in found.items() if at is not None and at < len(row)}
         own = {name: shown(row[at]) for name, at in there.items() if shown(row[at])}
@@ -125,6 +130,19 @@ class Headings(NamedTuple):
         ]
         lacking = [f"headings by {self.source} that the table lacks: {', '.join(names)}"] if names else []
         return self.used(row) + lacking
+
+
+def look_at_cells(cells: Sequence[str], width: int, places: Mapping[str, int]) -> None:
+    """Raises TableError for a cell that no column has and that is not empty: a quote may have put rows into it.
+
+    `width` is how many cells the row of the headings has, and `places` is where the columns are.
+    """
+    filled = [at for at, cell in enumerate(cells) if cell.strip()]
+    if any(at >= width for at in filled):
+        raise TableError(f"it has {len(cells)} cells, and the heading {width}")
+    other = next((at for at in filled if at not in places.values()), None)
+    if other is not None:
+        raise TableError(f"cell {other + 1} is not empty, and has no heading")
 
 
 def alike(name: str, known: Iterable[str]) -> str:

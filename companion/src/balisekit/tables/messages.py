@@ -3,21 +3,21 @@ from __future__ import annotations
 
 import re
 from itertools import accumulate
-from typing import List
+from typing import Iterator, List
 
 from balisekit.errors import TableError, TableErrors, faults_of
 from balisekit.io import inputs
 from balisekit.tables.account import of_rows
-from balisekit.tables.cells import NO_INK, OF_DIGITS, digits, has_telegram
+from balisekit.tables.cells import NO_INK, digits, has_telegram
 from balisekit.tables.encoding import text_of
+from balisekit.tables.groups_of_digits import DIGITS, plain
 from balisekit.tables.model import Message, Messages
 
 LEAST_DIGITS = 20
 """How many digits the shortest message has: NID_MESSAGE, L_MESSAGE, T_TRAIN, M_ACK and NID_LRBG."""
-BETWEEN_PAIRS = r"(?<=[0-9A-Fa-f]{2})[:-](?=[0-9A-Fa-f]{2}(?![0-9A-Fa-f]))"
-BETWEEN_DIGITS = re.compile(f"(?:{BETWEEN_PAIRS}|{NO_INK}|{OF_DIGITS})+")
-"""What may separate the digits of a message."""
-RUNS = re.compile(rf"[0-9A-Fa-f]+(?:(?:{BETWEEN_DIGITS.pattern})[0-9A-Fa-f]+)*")
+GROUP = re.compile(r"[0-9A-Fa-f]+|[^\W_]")
+"""Digits, or another letter, after which no digits of the same message are."""
+NOTHING = re.compile(f"{NO_INK}*")
 
 
 def read(path: str) -> Messages:
@@ -26,7 +26,8 @@ def read(path: str) -> Messages:
     with faults_of(path):
         text, encoding = text_of(file.content)
         messages = _messages(text)
-    return Messages(path, file.sha256, encoding, tuple(messages), of_rows([each.number for each in messages]))
+    account = of_rows([each.number for each in messages])
+    return Messages(path, file.sha256, encoding, tuple(messages), account, inputs.current_folder())
 
 
 def _messages(text: str) -> List[Message]:
@@ -35,7 +36,7 @@ def _messages(text: str) -> List[Message]:
         if not line.strip():
             continue
         cell, _, name = line.partition(";")
-        if has_telegram(name) or any(map(_has_message, RUNS.findall(name))):
+        if has_telegram(name) or any(map(_has_message, _stretches(name))):
             faults.append(TableError("after the semicolon is a message: write one per line", line=number))
         elif digits(cell):
             messages.append(Message(number, digits(cell), cell.strip(), name.strip()))
@@ -48,13 +49,33 @@ def _messages(text: str) -> List[Message]:
     return messages
 
 
-def _has_message(run: str) -> bool:
-    """Whether a message by its L_MESSAGE ends where digits end. Many are too short to look like a telegram.
+def _stretches(name: str) -> Iterator[List[str]]:
+    """The groups of digits of a name that may belong to one message.
+
+    Blanks and marks such as 0x are between them, or any characters if no group is longer than the one before it: the
+    end of a name can be in front of the first one, and the last one can be short.
+    """
+    text, stretch, end = plain(name), [""], 0
+    for found in GROUP.finditer(text):
+        is_near = NOTHING.fullmatch(text, end, found.start())
+        if not DIGITS.issuperset(found[0]):
+            yield stretch
+            stretch = [""]
+        elif is_near or len(found[0]) % 2 == 0 and len(found[0]) <= len(stretch[-1]):
+            stretch.append(found[0])
+        else:
+            yield stretch
+            stretch = [found[0]]
+        end = found.end()
+    yield stretch
+
+
+def _has_message(groups: List[str]) -> bool:
+    """Whether a message by its L_MESSAGE ends where a group ends. Many are too short to look like a telegram.
 
     It may begin anywhere: a lost line end puts it behind the end of a name, such as `report 1`.
     """
-    parts = BETWEEN_DIGITS.split(run)
-    text, ends = "".join(parts), {*accumulate(map(len, parts))}
+    text, ends = "".join(groups), {*accumulate(map(len, groups))}
     lengths = (
         (begin, (int(text[begin + 2 : begin + 5], 16) >> 2) * 2) for begin in range(len(text) - LEAST_DIGITS + 1)
     )

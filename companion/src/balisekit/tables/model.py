@@ -1,11 +1,12 @@
 """The data of a line as a table has it: rows, aspects, groups and messages."""
 from __future__ import annotations
 
-from dataclasses import dataclass
+from dataclasses import dataclass, field
 from decimal import Decimal
 from functools import cached_property
 from typing import Dict, Iterator, NamedTuple, Optional, Sequence, Tuple
 
+from balisekit.io.inputs import current_folder
 from balisekit.tables.account import Account
 
 
@@ -79,6 +80,19 @@ class Group:
         return {row.number: place for aspect in reversed(self.aspects) for place, row in enumerate(aspect.rows)}
 
 
+class Reading(NamedTuple):
+    """How a table is read, by the options of commands and of Python."""
+
+    sheet: Optional[str] = None
+    """The sheet that was named."""
+    skip_column: Tuple[str, ...] = ()
+    """The headings of columns that are not to be read."""
+    by_position: bool = False
+    """Whether balises are ordered by N_PIG."""
+    fill_merged: bool = False
+    """Whether all cells of a merged area have the value of its first cell."""
+
+
 @dataclass(frozen=True)
 class Table:
     """A table as it was read."""
@@ -105,6 +119,10 @@ class Table:
     """Of the first 1,000 headings that are passed over: the one for which each may have been mistyped, or nothing."""
     columns: Optional[str] = None
     """The file of settings that was named for it."""
+    reading: Reading = Reading()
+    """How it was read."""
+    folder: str = field(default_factory=current_folder)
+    """The folder from which these paths start: the current one when the table was read."""
 
     def __repr__(self) -> str:
         return f"<Table {self.path}: {len(self.rows)} telegrams of {len(self.groups)} groups>"
@@ -132,6 +150,8 @@ class Messages(NamedTuple):
     encoding: str
     messages: Tuple[Message, ...]
     account: Account
+    folder: str = ""
+    """The folder from which the path starts, if the file was read by itself."""
 
     def __repr__(self) -> str:
         return f"<Messages {self.path}: {len(self.messages)} messages>"

@@ -182,6 +182,8 @@ def _look_at(table: str, headings: Any) -> None:
             raise TableError(f"[{table}] names an unknown column {name}: {hint}")
         if not isinstance(heading, str) or not heading.strip():
             raise TableError(f'the heading of {name} is no text: write {name} = "..."')
+        if "\0" in heading:
+            raise TableError(f"the heading of {name} has a NUL, which no table has")
         if len(heading) > GREATEST_NAME:
             raise TableError(f"the heading of {name} has more than {GREATEST_NAME:,} characters")
         key = " ".join(heading.split()).lower()

@@ -34,7 +34,7 @@ from balisekit.io import inputs
 from balisekit.io.csv_writing import plain
 from balisekit.tables import csv as csv_file, decimal_commas, plan_values as values
 from balisekit.tables.cells import GREATEST_NAME, Sheet, is_error
-from balisekit.tables.headings import Headings, alike, compared
+from balisekit.tables.headings import Headings, alike, compared, look_at_cells
 from balisekit.tables.names import clean, kilometre
 from balisekit.tables.plan_values import Terms, Value
 from balisekit.tables.reader import head_of, kilometre_of
@@ -219,9 +219,7 @@ def _rows(sheet: Sheet, place: int, places: Mapping[str, int]) -> Tuple[PlanRow,
     for number, cells in enumerate(sheet.rows[place + 1 :], place + 2):
         if any(map(str.strip, cells)):
             try:
-                if any(map(str.strip, cells[width:])):
-                    raise TableError(f"it has {len(cells)} cells, and the heading {width}")
-                _look_at_others(cells, places)
+                look_at_cells(cells, width, places)
                 found = {name: cells[at] if at < len(cells) else "" for name, at in places.items()}
                 rows.append(_row(number, {name: _cell(name, found.get(name, "")) for name in COLUMNS}))
             except TableError as fault:
@@ -235,13 +233,6 @@ def _rows(sheet: Sheet, place: int, places: Mapping[str, int]) -> Tuple[PlanRow,
     if not rows:
         raise TableError("the plan has no row below its heading")
     return tuple(rows)
-
-
-def _look_at_others(cells: Sequence[str], places: Mapping[str, int]) -> None:
-    """Raises TableError for a cell without a heading that is not empty: a quote may have put rows into it."""
-    for at, cell in enumerate(cells):
-        if cell.strip() and at not in places.values():
-            raise TableError(f"cell {at + 1} is not empty, and has no heading")
 
 
 def _cell(name: str, cell: str) -> str:

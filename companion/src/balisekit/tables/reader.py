@@ -24,7 +24,7 @@ from balisekit.tables.cells import (
 from balisekit.tables.encoding import WORKBOOKS
 from balisekit.tables.grouping import groups_of
 from balisekit.tables.headings import SEARCHED, Headings, alike
-from balisekit.tables.model import Row, Table
+from balisekit.tables.model import Reading, Row, Table
 
 KM = re.compile(r"(?!-[0-9]+\+)(-?[0-9]{1,4})(?:[.,]([0-9]{1,6})|\+([0-9]{3})(?:[.,]([0-9]{1,3}))?)?")
 SCIENTIFIC = re.compile(r"[0-9]+[.,][0-9]+[eE]\+?[0-9]+|[0-9][eE]\+[0-9]+")
@@ -51,11 +51,9 @@ def read(
     """The table of this file. TableError or TableErrors is raised if it cannot be read.
 
     `sheet` names the sheet of an .xlsx, and `columns` a file with headings of the user's own. With `fill_merged` all
-    cells of a merged area have the value of its first cell. `skip_columns` are the headings of columns that are not to
-    be read, even if they have telegrams.
+    cells of a merged area have the value of its first cell. `skip_columns` are headings of columns that are not read.
     """
-    headings = own_headings.of_table(path, columns)
-    file = inputs.read(path)
+    headings, file = own_headings.of_table(path, columns), inputs.read(path)
     with faults_of(path):
         cells = sheet_of(file.content, headings, sheet, fill_merged)
         place, places = head_of(cells, headings)
@@ -67,7 +65,7 @@ def read(
             cells.look_at_calculated(begin, len(cells.rows[place]), places)
             in_columns = beside.telegrams(cells, begin, places["telegram"])
             of_heading = _notes_on_heading(place, headings.notes(cells.rows[place]), named)
-            of_heading += beside.covered_rows(cells, place + 1, begin, places["telegram"])
+            of_heading += beside.covered_rows(cells, place + 1, begin, places)
             rows = _rows(cells, places, begin, len(cells.rows[place]))
             grouped = groups_of(rows, by_position, place + 1)
         except (TableError, TableErrors) as error:
@@ -75,10 +73,12 @@ def read(
     about = path, file.sha256, cells.encoding, cells.separator
     not_judged = beside.of_columns(cells, cells.rows[place], begin, places, in_columns, skip_columns)
     account = beside.account(cells, [row.number for row in rows], passed_over, not_judged)
-    of_file, ordered = (*cells.notes, *own_headings.not_read(path, columns)), [BY_POSITION] if by_position else []
-    notes = (*of_file, *of_heading, *not_there, *ordered, *grouped.notes)
-    own = headings.of_row(cells.rows[place])
-    return Table(*about, passed_over, grouped.rows, grouped.groups, account, notes, tuple(own.values()), meant, columns)
+    of_heading += [*cells.notes_on_recalculated(begin, places.values()), *not_there]
+    of_file = (*cells.notes, *own_headings.not_read(path, columns), *of_heading)
+    notes = (*of_file, *([BY_POSITION] if by_position else []), *grouped.notes)
+    told = tuple(headings.of_row(cells.rows[place]).values()), meant, columns
+    reading = Reading(sheet, tuple(skip_columns), by_position, fill_merged)
+    return Table(*about, passed_over, grouped.rows, grouped.groups, account, notes, *told, reading)
 
 
 def _hints(passed_over: Sequence[str], meant: Sequence[str], place: int, named: bool) -> List[TableError]:
@@ -115,8 +115,8 @@ def head_of(sheet: Sheet, headings: Headings) -> Tuple[int, Dict[str, int]]:
     except TableError as error:
         if not sheet.others:
             raise
-        others = ", ".join(sheet.others)
-        why = f"sheet {sheet.name}: {error.why}; --sheet names another sheet: {others}"
+        remedy = "--sheet names another sheet" if headings.has_telegrams else "save another sheet as CSV"
+        why = f"sheet {sheet.name}: {error.why}; {remedy}: {', '.join(sheet.others)}"
         raise TableError(why, error.row) from error
     sheet.rows[place] = heads[place]
     sheet.look_at_covered(place + 1, places)

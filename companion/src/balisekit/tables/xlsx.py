@@ -8,16 +8,29 @@ import re
 import warnings
 import zipfile
 from decimal import Decimal
+from functools import partial
 from itertools import islice
 from posixpath import normpath
-from typing import Any, Callable, Dict, Iterable, Iterator, List, Match, Optional, Pattern, Sequence, Set, Tuple
+from typing import Any, Callable, Dict, Iterable, Iterator, List, NamedTuple, Optional, Pattern, Sequence, Tuple
 from xml.etree.ElementTree import Element, ParseError, fromstring, iterparse
 
 from balisekit.errors import KitError, TableError, needed
-from balisekit.tables.cells import GREATEST_NAME, Area, Found, Place, Sheet, fill_heads, of_kind, telegrams_in
+from balisekit.tables import strings
+from balisekit.tables.cells import (
+    GREATEST_NAME,
+    Area,
+    Found,
+    Place,
+    Sheet,
+    fill_heads,
+    of_kind,
+    shared_telegrams,
+    telegrams_in,
+)
 from balisekit.tables.encoding import OLD_WORKBOOK
 from balisekit.tables.headings import SEARCHED, Headings, is_data
 from balisekit.tables.other_parts import Beside, beside_cells
+from balisekit.tables.strings import NAMESPACE, OTHER_TEXT, Strings
 
 CONTENTS = "[Content_Types].xml"
 """A part that each workbook has."""
@@ -33,7 +46,6 @@ GREATEST_COLUMNS = 200
 """The most columns of a sheet that is read."""
 SHORT_WAY_OUT = "save the table as CSV, or in a workbook of its own"
 
-NAMESPACE = "{http://schemas.openxmlformats.org/spreadsheetml/2006/main}"
 REFERENCE = rb"""[^<]*?\sref\s*=\s*["']([^"']*)"""
 PLACES = 6
 """Numbers are rounded to as many decimal places as a kilometre can have: later digits of sums are wrong."""
@@ -41,6 +53,8 @@ MERGED = (
     "merged ranges, whose empty cells are read as empty: {count}, the first {first}; --fill-merged takes the value of "
     "the first cell for them"
 )
+UNMERGE = "merged ranges, whose empty cells are read as empty: {count}, the first {first}; unmerge and fill the cells"
+"""The same for a workbook that no option is about."""
 FILLED = "merged ranges, whose empty cells are read with the value of the first one: {count}, the first {first}"
 BESIDE = "telegrams in comments, text boxes and other parts that are not read: {count}, the first in {first}"
 NOT_SEARCHED = (
@@ -50,13 +64,23 @@ PACKAGE, DOCUMENT = "_rels/.rels", "/officeDocument"
 """The part that names the workbook, and how the kind of that relationship ends."""
 STRINGS = "http://schemas.openxmlformats.org/officeDocument/2006/relationships/sharedStrings"
 """The kind of the relationship of a workbook to its shared strings."""
-ESCAPED = re.compile("_x(00(?:0[1-9A-Fa-f]|1[0-9A-Fa-f]))_")
-"""A control character in a text, such as a carriage return. XML has none."""
+FORMULA = f"{NAMESPACE}f"
 CELL_TAGS = ("}c", "c")
 """How the name of the element of a cell ends, whatever its namespace."""
 DATES = (datetime.date, datetime.time, datetime.timedelta)
 ParseCell = Callable[[Element], Dict[str, Any]]
 """What openpyxl makes of the element of a cell: its value, and more."""
+
+
+class _Formulas(NamedTuple):
+    """The formulas of a sheet whose stored values may not be those that a spreadsheet shows."""
+
+    recalculates: bool
+    """Whether a spreadsheet calculates all formulas when it opens the workbook."""
+    not_calculated: List[Place]
+    """Those without a stored value. If they are recalculated, these are also 0 and an empty text."""
+    recalculated: List[Place]
+    """Those with another stored value."""
 
 
 def read(content: bytes, name: Optional[str], headings: Headings = Headings(), fill_merged: bool = False) -> Sheet:
@@ -69,35 +93,35 @@ def read(content: bytes, name: Optional[str], headings: Headings = Headings(), f
         try:
             file = io.BytesIO(content)
             reader = openpyxl.reader.excel.ExcelReader(file, read_only=True, data_only=True, keep_links=False)
+            reader.read_strings = partial(strings.read, reader)
             reader.read()
             book, named = reader.wb, len(reader.parser.sheets)
             _look_at_workbook(reader)
-            part_of_strings, strings = _part_of_strings(reader), _Strings(reader.shared_strings)
-            zeros = _may_lack_values(reader.archive.read(reader.parser.workbook_part_name))
+            part_of_strings, shared = _part_of_strings(reader), Strings(reader.shared_strings)
+            formulas = _Formulas(_recalculates(reader.archive.read(reader.parser.workbook_part_name)), [], [])
         except Exception as error:
             raise _unreadable(error) from error
         for each in book.worksheets:
-            each._shared_strings = strings
+            each._shared_strings = shared
         all_sheets = [*book.worksheets, *book.chartsheets]
         if len(all_sheets) < named:
             raise TableError(f"{named - len(all_sheets)} of its {named} sheets cannot be found in it: {SHORT_WAY_OUT}")
         _look_at_names("sheet", [each.title for each in all_sheets])
         sheet, note = _chosen(book, name, headings, fill_merged)
         merged = _merged(sheet)
-        not_calculated: List[Place] = []
-        rows, areas = _cells(_rows(sheet, zeros, not_calculated)), _areas(merged)
+        rows, areas = _cells(_rows(sheet, formulas)), _areas(merged)
         found: Dict[str, Found] = {}
         beside = Beside([], [])
-        if "telegram" in headings.needed:
-            found = _found_in_others(book, sheet, zeros)
+        if headings.has_telegrams:
+            found = _found_in_others(book, sheet, formulas.recalculates)
             names = [each._worksheet_path for each in book.worksheets]
             beside = beside_cells(content, names, part_of_strings, _look_at_parts)
-            beside.telegrams.extend([part_of_strings] * strings.telegrams_of_no_cell())
+            beside.telegrams.extend([part_of_strings] * shared.telegrams_of_no_cell())
         notes = (note, *_notes(beside.telegrams, BESIDE), *_notes(beside.not_searched, NOT_SEARCHED))
-        notes += tuple(_notes(merged, FILLED if fill_merged else MERGED))
+        notes += tuple(_notes(merged, FILLED if fill_merged else MERGED if headings.has_telegrams else UNMERGE))
         others = tuple(other.title for other in all_sheets if other is not sheet)
-        is_chosen = name is not None
-        return Sheet("xlsx", "", rows, notes, sheet.title, others, areas, fill_merged, found, is_chosen, not_calculated)
+        how = areas, fill_merged, found, name is not None
+        return Sheet("xlsx", "", rows, notes, sheet.title, others, *how, *formulas[1:])
 
 
 def _unreadable(error: Exception, row: Optional[int] = None) -> Exception:
@@ -214,11 +238,10 @@ def _look_at_part(what: str, named: Iterable[str], part: str) -> None:
             raise TableError(f"its {what} {name[:40]}, which is not the part of this kind: {SHORT_WAY_OUT}")
 
 
-def _may_lack_values(workbook: bytes) -> bool:
-    """Whether a stored zero or empty text may stand for the value of a formula, by the part of the workbook.
+def _recalculates(workbook: bytes) -> bool:
+    """Whether spreadsheets calculate all formulas when they open the workbook, by its part of this name.
 
-    Spreadsheets then calculate all formulas when they open it: libraries that calculate none ask for that, or have not
-    said how formulas were calculated.
+    Libraries that calculate none ask for that, or have not stated how formulas were calculated.
     """
     stated = next((each for each in fromstring(workbook) if each.tag == f"{NAMESPACE}calcPr"), None)
     if stated is None:
@@ -226,13 +249,11 @@ def _may_lack_values(workbook: bytes) -> bool:
     return stated.get("fullCalcOnLoad") in ("1", "true") or stated.get("calcCompleted") in ("0", "false")
 
 
-def _rows(sheet: Any, zeros: bool = False, not_calculated: Optional[List[Place]] = None) -> Iterator[List[Any]]:
+def _rows(sheet: Any, formulas: _Formulas) -> Iterator[List[Any]]:
     """The values of each row of a sheet, also of rows that it skips. TableError is raised for what openpyxl raises.
 
-    `not_calculated` gets the cells that are empty only because the values of their formulas are not stored. With
-    `zeros` these are also formulas whose stored value is 0 or an empty text.
+    `formulas` gets the cells whose values may not be those of their formulas.
     """
-    formulas = [] if not_calculated is None else not_calculated
     number = 0
     try:
         for row, parse_cell in _elements(sheet):
@@ -242,7 +263,7 @@ def _rows(sheet: Any, zeros: bool = False, not_calculated: Optional[List[Place]]
                 why = f"it follows row {before} in the workbook, which is damaged: save it again"
                 raise TableError(why, row=number)
             yield from ([] for _ in range(before + 1, number))
-            yield _values(row, number, parse_cell, zeros, formulas)
+            yield _values(row, number, parse_cell, formulas)
     except Exception as error:
         raise _unreadable(error, number) from error
 
@@ -273,76 +294,66 @@ def _number(text: str) -> int:
     return int(text) if re.fullmatch(r"\s*-?[0-9]{1,20}\s*", text) else 0
 
 
-def _values(row: Element, number: int, parse_cell: ParseCell, zeros: bool, not_calculated: List[Place]) -> List[Any]:
-    """The values of a row. `not_calculated` gets its cells with formulas whose values are not stored."""
+def _values(row: Element, number: int, parse_cell: ParseCell, formulas: _Formulas) -> List[Any]:
+    """The values of a row. Cells that have only a format are left out beyond the columns that a sheet can have."""
     from openpyxl.utils import column_index_from_string
 
     values: List[Any] = []
+    at = -1
     for cell in row.iterfind(f"{NAMESPACE}c"):
         place = cell.get("r", "")
         column = place.rstrip("0123456789")
         if column and place[len(column) :] != str(number):
             raise TableError(f"its cell {place[:40]} belongs to another row: save the workbook again", row=number)
-        skipped = column_index_from_string(column) - len(values) - 1 if column else 0
-        if skipped < 0:
+        before, at = at, column_index_from_string(column) - 1 if column else at + 1
+        if at <= before:
             raise TableError("its cells are not in the order of their columns: save the workbook again", row=number)
         value = _value(cell, parse_cell)
-        missing = (value is None or zeros) and _is_not_calculated(cell, value, zeros)
-        values += [*[None] * skipped, None if missing else value]
-        if missing:
-            not_calculated.append((number, len(values) - 1))
+        is_missing = _is_not_calculated(cell, value, formulas.recalculates)
+        if is_missing:
+            formulas.not_calculated.append((number, at))
+        elif formulas.recalculates and value is not None and cell.find(FORMULA) is not None:
+            formulas.recalculated.append((number, at))
+        if at < GREATEST_COLUMNS or value is not None or is_missing:
+            values += [*[None] * (at - len(values)), None if is_missing else value]
     return values
 
 
 def _value(cell: Element, parse_cell: ParseCell) -> Any:
-    """The value of a cell. A plain text is read without the objects of openpyxl, which take three times as long."""
-    child = cell.find(f"{NAMESPACE}is") if cell.get("t") == "inlineStr" else None
-    text = child.findtext(f"{NAMESPACE}t") if child is not None and len(child) == 1 else None
-    value = parse_cell(cell)["value"] if text is None else text
+    """The value of a cell. A text in it is read without the objects of openpyxl, which take three times as long."""
+    kind = cell.get("t", "n")
+    child = cell.find(f"{NAMESPACE}is") if kind == "inlineStr" else None
+    value = parse_cell(cell)["value"] if child is None else strings.text_of(child, f"cell {cell.get('r', '')}")
     if len(cell) > (value is not None) and _texts(cell) > (value is not None):
-        raise TableError(f"its cell {cell.get('r', '')} has a text that is not its value: save the workbook again")
-    return ESCAPED.sub(_character, value) if isinstance(value, str) and "_x00" in value else value
+        raise TableError(f"its cell {cell.get('r', '')} {OTHER_TEXT}")
+    if value is not None and not isinstance(value, str):
+        _look_at_stored(cell)
+    return strings.unescaped(value) if kind == "str" and value else value
+
+
+def _look_at_stored(cell: Element) -> None:
+    """TableError is raised for a number that Python reads and no spreadsheet does, such as 1_0."""
+    stored = cell.findtext(f"{NAMESPACE}v", "")
+    if "_" in stored or not stored.isascii():
+        raise TableError(f"its cell {cell.get('r', '')} has {stored[:40]}, which is no number: save the workbook again")
 
 
 def _texts(cell: Element) -> int:
     """How many elements of a cell have a text, except its formula."""
-    return sum(any(map(str.strip, part.itertext())) for part in cell if part.tag != f"{NAMESPACE}f")
+    return sum(any(map(str.strip, part.itertext())) for part in cell if part.tag != FORMULA)
 
 
-def _character(found: Match[str]) -> str:
-    """The control character that a workbook has as its number."""
-    return chr(int(found[1], 16))
-
-
-def _is_not_calculated(cell: Element, value: Any, zeros: bool) -> bool:
+def _is_not_calculated(cell: Element, value: Any, recalculates: bool) -> bool:
     """Whether a cell has a formula whose value is not stored. That of an empty text is stored as an empty one.
 
-    With `zeros` the values 0 and "" are not taken for values.
+    If a spreadsheet recalculates it, 0 and "" are not taken for values.
     """
-    if (value is not None and not zeros) or cell.find(f"{NAMESPACE}f") is None:
+    if (value is not None and not recalculates) or cell.find(FORMULA) is None:
         return False
     kind, text = cell.get("t", "n"), cell.findtext(f"{NAMESPACE}v")
     if value is None:
-        return zeros or kind != "str" or text is None
+        return recalculates or kind != "str" or text is None
     return kind == "n" and text is not None and float(text) == 0
-
-
-class _Strings(List[str]):
-    """Shared strings, of which none is counted from the end, and which of them a cell has."""
-
-    def __init__(self, strings: Iterable[str]) -> None:
-        super().__init__(strings)
-        self.used: Set[int] = set()
-
-    def __getitem__(self, index: Any) -> Any:
-        if index < 0:
-            raise IndexError(f"shared string {index}")
-        self.used.add(index)
-        return super().__getitem__(index)
-
-    def telegrams_of_no_cell(self) -> int:
-        """How many telegrams are in strings that no cell has."""
-        return sum(telegrams_in(text) for index, text in enumerate(self) if index not in self.used)
 
 
 def _chosen(book: Any, name: Optional[str], headings: Headings, fill_merged: bool) -> Tuple[Any, str]:
@@ -356,36 +367,40 @@ def _chosen(book: Any, name: Optional[str], headings: Headings, fill_merged: boo
     fits = [sheet for sheet in sheets if heads and headings.row_of(heads[sheet.title]) is not None]
     if len(fits) > 1:
         names = ", ".join(sheet.title for sheet in fits)
-        raise TableError(f"several sheets have the headings: name one by --sheet: {names}")
+        remedy = "name one by --sheet" if headings.has_telegrams else "save the one that is meant as CSV"
+        raise TableError(f"several sheets have the headings: {remedy}: {names}")
     likely = [sheet for sheet in sheets if any(map(is_data, heads.get(sheet.title, ())))]
     sheet = (fits or likely or sheets)[0]
     hidden = sheet.sheet_state != "visible"
     if hidden and name is None and (fits or headings.row_of(_head(sheet, fill_merged)) is not None):
-        raise TableError(f"only the hidden sheet {sheet.title} has the headings: name it by --sheet, or show it")
+        remedy = "name it by --sheet, or show it" if headings.has_telegrams else "show it"
+        raise TableError(f"only the hidden sheet {sheet.title} has the headings: {remedy}")
     return sheet, f"the sheet is {sheet.title}{', which is hidden' * hidden}; hidden and filtered rows are read as well"
 
 
-def _found_in_others(book: Any, chosen: Any, zeros: bool) -> Dict[str, Found]:
+def _found_in_others(book: Any, chosen: Any, recalculates: bool) -> Dict[str, Found]:
     """What is found in the sheets that are not read, hidden ones among them."""
     found: Dict[str, Found] = {}
     for sheet in book.worksheets:
         try:
-            found.update({sheet.title: _found(sheet, zeros)} if sheet is not chosen else {})
+            found.update({sheet.title: _found(sheet, recalculates)} if sheet is not chosen else {})
         except Exception as error:
             fault = _unreadable(error)
             raise TableError(f"sheet {sheet.title}: {fault}") if isinstance(fault, TableError) else fault from error
     return found
 
 
-def _found(sheet: Any, zeros: bool) -> Found:
+def _found(sheet: Any, recalculates: bool) -> Found:
     """What is found in a sheet whose rows and cells may be in any order."""
     found, number = Found([], []), 0
     for row, parse_cell in _elements(sheet):
-        number = _number(row.get("r", "")) or number + 1
+        number, texts = _number(row.get("r", "")) or number + 1, []
         for cell in row.iterfind(f"{NAMESPACE}c"):
             value = _value(cell, parse_cell)
-            found.telegrams.extend([number] * telegrams_in(_text(value)))
-            found.formulas.extend([number] * _is_not_calculated(cell, value, zeros))
+            texts.append(_text(value))
+            found.telegrams.extend([number] * telegrams_in(texts[-1]))
+            found.formulas.extend([number] * _is_not_calculated(cell, value, recalculates))
+        found.telegrams.extend([number] * len(shared_telegrams(texts)))
     return found
 
 
@@ -393,7 +408,7 @@ def _head(sheet: Any, fill_merged: bool) -> List[List[str]]:
     """The first rows of a sheet, and one more."""
     values: List[List[Any]] = []
     try:
-        values.extend(islice(_rows(sheet), SEARCHED + 1))
+        values.extend(islice(_rows(sheet, _Formulas(False, [], [])), SEARCHED + 1))
     except TableError:  # (which is raised again if this sheet is read)
         pass
     rows = _cells(values, widest=None)

@@ -1,31 +1,33 @@
 """L1: linked group not in the table.
 
-What it says. A packet 5 names a group that is not in the table, although its D_LINK leads to a place inside the table's
-track. D_LINK counts along the track, from the sender or from the last group of this packet that the table has. A link
-without NID_C takes the NID_C of the link before it, and the first link that of the telegram. If a link leads beyond an
-end of the track by more than Q_LOCACC and `--tolerance`, the table might be a section of a longer line. The rule then
-only counts the link, in one note for each end. It also only counts a link that might lead to a group of which no
-telegram could be read. If the table has the NID_BG under another NID_C, the line names that group. A link to NID_BG
-16,383 names no group, so it is not reported. The rule rests on SUBSET-026, 3.4.4 and 7.4.2.
+What it says. A packet 5 names a group that is not in the table, although its D_LINK leads to a place between the ends
+of the table's track. The rule rests on SUBSET-026, 3.4.4 and 7.4.2.
+- D_LINK counts along the track, from the sending group or from the last group before this link that is in the table.
+- A link without NID_C has the NID_C of the link before it, and the first link then has the NID_C of its telegram.
+- The table might be a section of a longer line. So a link that leads beyond an end of the track by more than Q_LOCACC
+  and `--tolerance` gets no remark. One note for each end counts such links.
+- A link that might lead to a group of which no telegram could be read gets no remark either, and is counted.
+- If the table has the NID_BG under another NID_C, the remark names that group.
+- A link to NID_BG 16,383 (not known) names no group, so it is not reported.
 
-Why it matters. At worst the train brakes or is tripped at each passage. It waits for a group that does not come, and
-then applies the linking reaction (Q_LINKREACTION). If a group with another identity and Q_LINK 1 is at that place, the
-train passes over it and loses its information.
+Why it matters. At worst the train brakes or is tripped at each passage. It expects a group that does not come, and then
+applies the linking reaction (Q_LINKREACTION). If a group with another identity and Q_LINK 1 is at that place, the train
+ignores it and loses its information.
 
 Example. Before (`examples/links/group-not-in-table.csv`): the reverse link of group B (km 11.000) names group 5, and
-the table has no such group. At the place to which D_LINK leads, km 12.000, it has C as group 3. After
+the table has no such group. At km 12.000, to which D_LINK leads, the table has C as group 3. After
 (`examples/links/line.csv`): the link names group 3.
 
 When it is a false alarm. The rule assumes that the table lacks only groups beyond its ends. A branch line that is
 linked from the middle of the table breaks this assumption. The rule also relies on D_LINK to show where a link leads.
-It cannot do so if the kilometres repeat, or jump and nobody stated it. The same holds if the sending group, or the last
-linked group before the missing one, has no kilometre or no direction. A group just beyond an end is named too, if it is
-within Q_LOCACC and `--tolerance` of that end. So is a group beyond the end that has the NID_BG of another group of the
-table. {one way}
+D_LINK cannot show this if the kilometres repeat, or if they jump and nobody stated the jump. The same holds if the
+sending group, or the last linked group before the missing one, has no kilometre or no direction. The rule also takes a
+place just beyond an end as part of the table, if the place is within Q_LOCACC and `--tolerance` of that end. A link
+farther beyond the end is reported too, if a group of the table has its NID_BG. {one way}
 
 Usual cause. The number of the group was typed wrongly. Or the group got a new number and the link kept the old one. Or
-Q_NEWCOUNTRY and NID_C were forgotten at a border. If the table has another group at that place, the line names it with
-its identity. If F14 is found for that identity, this group might be the one with the wrong number.
+Q_NEWCOUNTRY and NID_C were forgotten at a border. If the table has another group at that place, the remark names that
+group with its identity. If F14 is found for that identity, the group in the remark might have the wrong number.
 
 How to correct it. Correct the link, or add the group to the table.
 

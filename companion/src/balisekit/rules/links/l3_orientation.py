@@ -5,24 +5,24 @@ states whether a train that runs towards the group passes its balises in rising 
 (reverse, 0). The rule compares only groups of two or more balises. A single balise has no order, and gets its direction
 by this very variable. The rule rests on SUBSET-026, 3.4.2 and 3.4.4.
 
-Why it matters. At worst the train brakes or is tripped at each passage. By the balises it finds another direction than
-the link announced. It then applies the linking reaction, or rejects the message of the group.
+Why it matters. At worst the train brakes or is tripped at each passage. The order of the balises shows the train
+another direction than the link announced. It then applies the linking reaction, or rejects the message of the group.
 
 Example. Before (`examples/links/orientation-differs.csv`): the link of A says that B (km 11.000) is passed in nominal
 direction, but its balises show the reverse direction. After (`examples/links/line.csv`): Q_LINKORIENTATION of this link
 is 0, reverse.
 
-When it is a false alarm. Never, if each track has a name and is one straight chain of kilometres, and packets with
-Q_DIR 2 are used in both directions. A balloon loop is no such chain. Nor is a track whose kilometres turn back, jump or
-are rounded within a group.
+When it is a false alarm. Never, if each track has a name, its kilometres rise steadily from one end to the other, and
+trains use packets with Q_DIR 2 in both directions. On a balloon loop the kilometres do not rise steadily. The same
+holds if they turn back, jump or are rounded within a group.
 
 Usual cause. The group was turned, or a link was copied from a group that faces the other way. If the table has the
-balises in another order than the track, F1 is found as well, and the line says so. Sometimes the order of the sending
-group is the wrong one: the line then blames the next group.
+balises in another order than the track, F1 is found as well, and the remark names it. Sometimes the order of the
+sending group is the wrong one, and the remark then blames the next group.
 
 How to correct it. Correct Q_LINKORIENTATION. If the order of the balises in the table is wrong, correct the table.
 
-How to accept it. Only a track that is no straight chain of kilometres is a reason. Name it, for example as a balloon
+How to accept it. The only reason is a track whose kilometres do not rise steadily. Name it, for example as a balloon
 loop.
 """
 from __future__ import annotations
@@ -31,6 +31,7 @@ from typing import Iterator, Union
 
 from balisekit.etcs.geometry import NOMINAL, REVERSE
 from balisekit.rules.chains import Chain
+from balisekit.rules.facts import group_words
 from balisekit.rules.line import Line
 from balisekit.rules.location import ANOTHER_TRACK, NO_DIRECTION, NOT_IN_TABLE
 from balisekit.rules.rule import Options, Remark, Result, Rule, Urgency
@@ -62,7 +63,8 @@ def _look_at(line: Line, chain: Chain) -> Iterator[Union[Remark, str, None]]:
                 f"Q_LINKORIENTATION says that {here} is passed in {announced} direction, "
                 f"and by the order of its balises along the track it is passed in {wanted} direction"
             )
-            yield Remark("L3", chain.at(link), sentence + line.wrong_order(here, sender), here)
+            facts = (f"link {link.number} to {group_words(here)} {announced}",)
+            yield Remark("L3", chain.at(link), sentence + line.wrong_order(here, sender), here, facts=facts)
 
 
 RULE = Rule("L3", "links", __doc__ or "", find, Urgency.BRAKING, needs_kilometres=True)

@@ -1,20 +1,20 @@
 """L4: linked group has Q_LINK 0.
 
-What it says. A group of the table has Q_LINK 0, so it is not linked, although a packet 5 names it. The line is about
-the group that is named, and lists up to three groups or messages whose packets name it. The rule rests on SUBSET-026,
+What it says. A group of the table has Q_LINK 0, so it is not linked, although a packet 5 names it. The remark is about
+the group that is named, and lists up to three groups or messages whose packets 5 name it. The rule rests on SUBSET-026,
 3.4.4 and 7.5.1.
 
-Why it matters. To be looked at: linking does not protect the group. A train accepts a group with Q_LINK 0 at any place,
-also outside its expectation window. So nothing shows that the group is at a wrong place, and the train does not correct
-its position by it.
+Why it matters. To be looked at: linking does not supervise this group. A train accepts a group with Q_LINK 0 at any
+place, also outside its expectation window. So the train does not notice that the group is at a wrong place, and does
+not correct its position by this group.
 
 Example. Before (`examples/links/linked-but-not-linked.csv`): both balises of B (km 11.000) have Q_LINK 0, and the
 packet 5 of A names B. After (`examples/links/line.csv`): both balises have Q_LINK 1.
 
 When it is a false alarm. Never, as far as this project knows: the packet 5 and the header contradict each other.
 
-Usual cause. The telegrams of a group that was linked later were not made anew. Or a group that is unlinked on purpose
-got into a packet 5.
+Usual cause. The telegrams of a group that was linked later were not generated again. Or a group that is unlinked on
+purpose got into a packet 5.
 
 How to correct it. Set Q_LINK to 1 in all telegrams of the group, or take the group out of the packets 5.
 

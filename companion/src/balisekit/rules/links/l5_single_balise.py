@@ -1,8 +1,8 @@
 """L5: direction of a single balise not known.
 
 What it says. A single balise has Q_LINK 0, and a packet other than 44, 145 and 254 that holds in one direction only
-(Q_DIR 0 or 1). The line names the first such packet. A single balise has no direction of its own, and with Q_LINK 0 it
-gets none by linking. The rule rests on SUBSET-026, 3.4.2.
+(Q_DIR 0 or 1). The remark names the first such packet. A single balise has no direction of its own, and with Q_LINK 0
+it gets none by linking. The rule rests on SUBSET-026, 3.4.2.
 
 Why it matters. At worst the train gets wrong information for the other direction, or none. It does not know in which
 direction it passes the balise, so it cannot use a packet that holds in only one of them.
@@ -16,8 +16,8 @@ When it is a false alarm. Never, as far as this project knows: nothing else tell
 Usual cause. A group of two was reduced to one balise. Or Q_LINK was left at 0. Or the packet was meant for both
 directions.
 
-How to correct it. Link the balise and set Q_LINK to 1, or add a second balise. If the distances of the packet fit both
-ways, you can set its Q_DIR to 2 instead.
+How to correct it. Link the balise and set Q_LINK to 1, or add a second balise. If the distances of the packet are right
+in both directions, you can set its Q_DIR to 2 instead.
 
 How to accept it. There is no usual reason to accept it. Give the balise a direction.
 """

@@ -1,7 +1,7 @@
 """L6: identity not known.
 
-What it says. The header of a balise has NID_BG 16,383, which means that the identity is not known. It is the number of
-no group. The rule rests on SUBSET-026, 7.5.1.
+What it says. The header of a balise has NID_BG 16,383, which means that the identity is not known. No group has this
+number. The rule rests on SUBSET-026, 7.5.1.
 
 Why it matters. At worst the train has a wrong position. No link can name the group, and no train can report its
 position from it. Two such groups even have the same identity, which the program finds as F14.

@@ -4,15 +4,15 @@ What it says. A group or message 3 gives an authority, and for the same directio
 end mark. The program takes an open profile to reach any place. Its yes then rests on a rule of this project, which the
 standard might not share.
 
-Why it matters. To be looked at: the yes says less than it seems to. The last gradient or speed holds without end, also
-on track that has another one. A train might refuse an authority whose profiles do not end.
+Why it matters. To be looked at: a yes then covers less than it seems to. The last gradient or speed holds without end,
+also on track that has another one. A train might refuse an authority whose profiles do not end.
 
 Example. Before (`examples/links/open-profile.csv`): packet 21 of balise A2 (km 10.003) has no end mark, and the
 authority of its group rests on it. After (`examples/links/line.csv`): an element with G_A 255 ends the profile 1,000 m
 from the group.
 
-When it is a false alarm. Never, if each profile needs an end mark. Whether it does was not looked up in a printed
-standard. If it does not, the remark is a false alarm in a project that omits end marks on purpose.
+When it is a false alarm. Never, if each profile needs an end mark. This project has not looked up in a printed standard
+whether it does. If it does not, the remark is a false alarm in a project that omits end marks on purpose.
 
 Usual cause. The end mark (G_A 255, V_STATIC 127) was forgotten. Or the tool that made the data omits it at the end of a
 line.

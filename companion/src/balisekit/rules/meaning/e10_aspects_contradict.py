@@ -1,11 +1,13 @@
 """E10: aspects that contradict each other about the track.
 
 What it says. Two aspects of a group that lead to one place state different V_STATIC, or gradients more than 5 ‰ apart,
-on a stretch longer than `--tolerance` and rounding. Stretches that touch count as one. A rise and a fall are different
-gradients. The two aspects are compared as far as the packets 5 of both name the same groups, also beyond an end of
-authority. Without packets 5 they are compared if both authorities end at the same place. The rule passes over
-everything beyond a `point` of the track plan. One remark names the aspect that most others disagree with, and the
-longest stretch. The rule rests on SUBSET-026, 3.11.
+for the same stretch of the track. The rule rests on SUBSET-026, 3.11.
+- The stretch must be longer than `--tolerance` (default 1 m) and rounding. Stretches that touch count as one.
+- A rise and a fall are different gradients.
+- The two aspects are compared as far as the packets 5 of both name the same groups, also beyond an end of authority.
+  Without packets 5 they are compared if both authorities end at the same place.
+- Nothing beyond a `point` of the track plan is compared.
+- One remark names the aspect that most others disagree with, and the longest stretch.
 
 Why it matters. At worst the train gets wrong information. At one of the aspects it gets a speed that is too great, or a
 gradient that is too favourable.
@@ -17,9 +19,9 @@ When it is a false alarm. The rule assumes that aspects which name the same grou
 if the routes part before the last of these groups. Two routes without packets 5 might also end at the same distance by
 chance. {exact} {track speed} The profile of a stop aspect can differ too, because no train uses it.
 
-Usual cause. The profile of one aspect was not made anew. It has a wrong sign, scale or unit.
+Usual cause. The profile of one aspect was not generated again. Or it has a wrong sign, scale or unit.
 
-How to correct it. Correct the wrong profile by the track plan.
+How to correct it. Correct the wrong profile according to the track plan.
 
 How to accept it. Name the routes of the two aspects, or state what V_STATIC of one of them includes.
 

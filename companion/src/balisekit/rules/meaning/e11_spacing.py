@@ -1,10 +1,11 @@
 """E11: spacing of balises.
 
 What it says. Neighbouring balises of a group are less than 2.3 m or more than 12 m apart by their kilometres, or their
-order contradicts the column `nominal`. This column states whether the kilometres rise or fall in nominal direction.
-With a `--line-speed` above 180 km/h the least spacing is 3.0 m. One unit of the last decimal of the kilometres, at most
-1 m, is allowed in either direction. The rule passes over a group whose balises all have the same kilometre. The rule
-rests on the installation of balise groups in SUBSET-036 and SUBSET-040.
+order contradicts the column `nominal`. This column states whether the kilometres rise or fall in nominal direction. The
+rule rests on the installation of balise groups in SUBSET-036 and SUBSET-040.
+- With a `--line-speed` above 180 km/h the least spacing is 3.0 m.
+- One unit of the last decimal of the kilometres, at most 1 m, is allowed in either direction.
+- A group whose balises all have the same kilometre is not compared.
 
 Why it matters. At worst the train has a wrong position, because distances of the group count from its first balise.
 Balises that are too close disturb each other, so a train might miss one. A balise that is too far away is not taken for
@@ -14,7 +15,7 @@ Example. Before (`examples/meaning/mistakes/E11.csv`): the second balise of Sign
 first one. After: it is at km 13.003, 3 m from the first one.
 
 When it is a false alarm. The rule assumes that the track keeps these distances. That is not so if a balise has an
-exception, or if `--line-speed` is that of a faster track. The rule also assumes that the kilometres within a group
+exception, or if `--line-speed` is the speed of a faster track. The rule also assumes that the kilometres within a group
 follow the track. They do not if they jump there, if they belong to something else, or if all or some of them are
 rounded coarsely.
 

@@ -1,14 +1,19 @@
 """E12: end of authority.
 
-What it says. An authority ends elsewhere than the others to the same group, or it ends 50 m to 200 m from the nearest
-group, where no signal is. The end counts from the kilometre of the group, by the sum of L_SECTION and L_ENDSECTION.
-Authorities are packets 12 with V_MAIN above 0, and packets 15. The rule assumes that each authority leads to one of the
-groups that its packets 5 name. It is the group nearest to the end, if that is at most 200 m away. Otherwise it is the
-last of these groups before the end, if another one is beyond it. Authorities without packets 5 are compared if each
-ends at most 20 m from the next one. The second part of the rule, an end far from any group, is only for packets 12. It
-takes the place of a group to be that of its first balise, and looks only between the first and the last signal of the
-way. It reports nothing if packets 5 name a group there that has no kilometre or is on another track. Places may differ
-by `--tolerance` (else 1 m) and rounding. The rule rests on SUBSET-026, 3.8 and 7.4.2.
+What it says. An authority ends at another place than the others that lead to the same group, or 50 m to 200 m from the
+nearest group. The rule rests on SUBSET-026, 3.8 and 7.4.2.
+- Authorities are packets 12 with V_MAIN above 0, and packets 15. The end counts from the kilometre of the sending
+  group, by the sum of L_SECTION and L_ENDSECTION. What follows a packet 136 is not compared.
+- An authority leads to the group in its packets 5 that is nearest to the end, if that group is at most 200 m from the
+  end. Otherwise it leads to the last of these groups before the end, if its packets 5 also name a group beyond the end.
+  The group does not count if D_LINK and the kilometres disagree by more than 200 m about its place.
+- Authorities without packets 5 are compared if their ends are near each other, each at most 20 m from the next one.
+- Ends away from groups are reported only for packets 12, between the first and the last group that gives an authority
+  for this track and way. A group is at the place of its first balise.
+- Such an end is not reported if packets 5 name a group there that is not in the table, has no kilometre or is on
+  another track.
+- The most frequent end counts as right, or else the one nearest to the group. Ends may differ by `--tolerance` (default
+  1 m) and rounding.
 
 Why it matters. At worst the train gets wrong information, and might pass the signal at which it has to stop. Or it
 stops some metres in rear of the signal.
@@ -16,16 +21,17 @@ stops some metres in rear of the signal.
 Example. Before (`examples/meaning/mistakes/E12.csv`): at "green" the authority of Signal 3 ends at km 16.050, and 1
 other authority that leads to Signal 5 ends at km 16.000. After: L_ENDSECTION of "green" is 50 m shorter.
 
-When it is a false alarm. The rule assumes that all authorities to one group end at one place. A calling-on route, a
-limit of authority (V_LOA above 0), or an end at a marker board by radio can be elsewhere. So can an authority that ends
-at a signal up to 200 m beyond its links. The rule also assumes that each authority ends at a group. In limited
-supervision an authority might end elsewhere. The same holds for a buffer stop, a board or a border, if no group of the
-table or of a packet 5 is within 50 m. {leaving} {points} {kilometres} {one way}
+When it is a false alarm. The rule assumes that all authorities to one group end at one place. An authority for a
+calling-on route, with a limit of authority (V_LOA above 0), or by radio up to a marker board can end elsewhere. The
+same holds for an authority that ends at a signal up to 200 m beyond the last group in its packets 5. The rule also
+assumes that each authority ends at a group. In limited supervision an authority might end elsewhere. It might also end
+at a buffer stop, a board or a border that has no group of the table or of a packet 5 within 50 m. {leaving} {points}
+{kilometres} {one way}
 
 Usual cause. A length was typed wrongly, or has a wrong Q_SCALE. Or a signal was moved, and not all groups in rear of it
 were changed.
 
-How to correct it. Correct the sum of the lengths by the distance to the signal.
+How to correct it. Correct the sum of the lengths, so that it is the distance to the signal.
 
 How to accept it. Name what is at the end of this authority, for example a buffer stop or a marker board.
 

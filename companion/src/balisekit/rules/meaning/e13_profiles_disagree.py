@@ -1,12 +1,16 @@
 """E13: profiles that disagree.
 
-What it says. Two neighbouring groups describe the same stretch of the track with different speeds or gradients. This is
-reported only if every aspect of the one group differs from every aspect of the other. The stretch must be longer than
-`--tolerance` (1 m if it is not given) and rounding, and stretches that touch count as one. Speeds differ if V_STATIC is
-not the same, and gradients differ if they are more than 5 ‰ apart. The two groups are on the same track, and no group
-between them describes the stretch for trains that run the same way. Groups with a refused telegram do not count. If
-some aspects of the group in rear link to the group ahead, only these aspects are compared. If a group differs from its
-neighbours on both sides, the remark is on this group. The rule rests on SUBSET-026, 3.11.3 and 3.11.12.
+What it says. Two neighbouring groups describe the same stretch of the track with different speeds or gradients. Speeds
+differ if V_STATIC is not the same, and gradients differ if they are more than 5 ‰ apart. The rule rests on SUBSET-026,
+3.11.3 and 3.11.12.
+- Every aspect of the one group must differ from every aspect of the other one.
+- The stretch on which they differ must be longer than `--tolerance` (default 1 m) and rounding. Stretches that touch
+  count as one.
+- Two groups are neighbours if they are on the same track, and no group between them describes the stretch for trains
+  that run the same way.
+- If only some aspects of the group in rear have packets 5 that name the group ahead, only these aspects are compared.
+- Groups with a refused telegram do not count.
+- If a group differs from its neighbours on both sides, the remark is on this group.
 
 Why it matters. At worst the train gets wrong information: it might go too fast, or brake too late on a slope. It goes
 by the profile that it got last, which might be the wrong one.
@@ -19,7 +23,7 @@ When it is a false alarm. {exact} Some projects also let a new speed begin 20 m 
 
 Usual cause. V_STATIC is in km/h, or Q_SCALE or Q_GDIR is wrong. Or a speed or a gradient was changed in one group only.
 
-How to correct it. Correct the wrong profile by the track plan.
+How to correct it. Correct the wrong profile according to the track plan.
 
 How to accept it. State which of the two profiles is exact, and why the other one might differ.
 
@@ -28,9 +32,8 @@ How sure. 87 %, by practice and memory of the standard.
 from __future__ import annotations
 
 from collections import Counter
-from dataclasses import dataclass
 from decimal import Decimal
-from typing import Dict, Iterator, List, Sequence, Tuple
+from typing import Dict, Iterator, List, NamedTuple, Sequence, Tuple
 
 from balisekit.rules.decoded import Decoded
 from balisekit.rules.line import Line
@@ -57,8 +60,7 @@ ALONE = "the only group of its track"
 """Why profiles are compared with no others."""
 
 
-@dataclass(frozen=True)
-class Difference:
+class Difference(NamedTuple):
     """Two groups that differ on some stretches."""
 
     rear: Profiles

@@ -1,17 +1,20 @@
 """E14: distance not as it is written.
 
-What it says. A distance by D_LINK differs from the distance by the kilometres, but not so much that L2 reports it. The
-distance counts from the sender, or from the linked group before. The two may differ by `--tolerance` (else 1 m) and
-rounding. Rounding is one unit of Q_SCALE and one unit of the last decimal of the kilometres, at most 1 m. If several
-links are added up, half a unit of Q_SCALE is allowed for each further one. L2 also allows Q_LOCACC, which describes how
-exactly a group is installed, not how exactly D_LINK is written. If all links of two groups or more over a stretch
-differ by one amount, a single remark asks whether the kilometres jump there. The kilometres might also follow another
-axis than the track. The rule assumes this if at least five links of the track differ in this way, and if these are more
-than a fifth of its links. Links over a jump do not count. One note then counts these links, and no remark is made. The
-rule rests on SUBSET-026, 3.4.4 and 7.5.1.
+What it says. A distance by D_LINK differs from the distance by the kilometres, but not so much that L2 reports it. L2
+also allows Q_LOCACC, which describes how exactly a group is installed, not how exactly D_LINK is written. The rule
+rests on SUBSET-026, 3.4.4 and 7.5.1.
+- The distance counts from the sending group, or from the linked group before.
+- The two distances may differ by `--tolerance` (default 1 m) and rounding. Rounding is one unit of Q_SCALE, and one
+  unit of the last decimal of the kilometres (at most 1 m). If several D_LINK are added up, half a unit of Q_SCALE is
+  allowed for each further one.
+- If the links of two or more groups lead over one stretch and all differ by the same amount, one remark asks whether
+  the kilometres jump there.
+- If many links of a track differ, the kilometres might follow another axis than the track. One note then counts these
+  links instead of remarks. Many are at least five, and more than a fifth of the links of the track. Links over a jump
+  do not count.
 
-Why it matters. At worst the train has a wrong position: it believes itself some metres from where it is. All places
-that count from there move with it. A remark about a jump has the lowest urgency.
+Why it matters. At worst the train has a wrong position: it believes itself some metres from where it is. All distances
+that it counts from there lead to wrong places. A remark about a jump has the lowest urgency.
 
 Example. Before (`examples/meaning/mistakes/E14.csv`): Signal 5 is 1,504 m from Signal 4 by D_LINK and 1,500 m by the
 kilometres, and Q_LOCACC is 5 m. After: D_LINK is 1,500 m.

@@ -1,14 +1,16 @@
 """E15: infill that is not its signal.
 
-What it says. A packet 12, 21, 27 or 80 after a packet 136 differs from that of the signal's aspect of the same name, or
-the signal is in rear. The signal is the group that the packet 136 names. A signal that is not in the table is reported
-too. It gets only a note if a group of which no telegram could be read might be it. The same holds if no group ahead of
-the infill gives an authority in its direction, because the signal might be beyond the table. The packets are compared
-for the direction in which the train passes the signal. Not compared are Q_DIR, Q_SCALE, the Q_GDIR of a G_A 0 or 255,
-and the Q_FRONT and V_DIFF of a V_STATIC 127. Distances are compared in metres, and if Q_SCALE differs, they may differ
-by the greater unit. Sections without timers count by their sum. Packets that only one of the two groups has are passed
-over. The proved program does not decode packets 80 and 136: balisekit decodes them by layouts of its own. The rule
-rests on SUBSET-026, 3.6.2 and 7.4.2.
+What it says. A packet 12, 21, 27 or 80 after a packet 136 differs from the same packet of the signal, in the aspect of
+the same name. The signal is the group that the packet 136 names. The proved program does not decode packets 80 and 136:
+balisekit decodes them by layouts of its own. The rule rests on SUBSET-026, 3.6.2 and 7.4.2.
+- A signal that is in rear of the infill, or not in the table, is reported too.
+- A missing signal gets only a note if it might be a group of which no telegram could be read. It also gets only a note
+  if no group ahead of the infill gives an authority in its direction, because the signal might be beyond the table.
+- The packets are compared for the direction in which the train passes the signal.
+- Distances are compared in metres. If Q_SCALE differs, they may differ by the greater unit. Sections without timers are
+  compared by the sum of their lengths.
+- Q_DIR and Q_SCALE are not compared, nor the Q_GDIR of a G_A 0 or 255, nor the Q_FRONT and V_DIFF of a V_STATIC 127.
+- A packet that only one of the two groups has is not compared. Nor is an aspect whose name the signal does not have.
 
 Why it matters. At worst the train gets wrong information: it releases its brake for an aspect that the signal does not
 show.
@@ -20,9 +22,9 @@ When it is a false alarm. The rule assumes that an aspect name means the same at
 not so if the names are numbers, or if the infill has the names of a distant signal. It assumes that infill repeats its
 signal. A project might say less on purpose, with a lower V_MAIN, shorter or merged profiles, or other timers. Infill
 for a signal at danger might also have a V_MAIN above 0 and no length. It assumes that the table has the signal, which
-is not so on a branch line. Sometimes no packet 5 links the signal, and the kilometres show no direction or the tracks
-differ. The rule then assumes that both groups face the same way. A loop between the two groups can mislead it.
-{kilometres} {one way}
+is not so on a branch line. The rule also assumes that infill and signal face the same way, if no packet 5 names the
+signal and the kilometres do not show its direction. The same holds for a signal on another track that no packet 5
+names. A loop between the two groups can mislead the rule. {kilometres} {one way}
 
 Usual cause. The infill was not changed with its signal. Or it was copied from the wrong aspect.
 

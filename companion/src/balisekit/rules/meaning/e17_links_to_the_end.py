@@ -1,14 +1,18 @@
 """E17: links that end before the authority.
 
 What it says. A packet 12 with V_MAIN above 0 ends more than 50 m beyond the last group that packets 5 name, although
-other linked groups follow. These packets 5 are those of all aspects of the group, and of the groups before it on that
-track and way. If the direction of one is not known, its first link shows it. D_LINK shows the place of a group without
-a kilometre. A linked group that follows has Q_LINK 1, and packets for that direction other than 0, 145, 254 and 255.
-One such group is enough, and it may be up to 50 m beyond the end of the authority. If the authority ends beyond the
-last group of its track and way, the rule is silent. The rule is silent if the last link is NID_BG 16,383, because the
-group with repositioning information there names the next ones. It is also silent if this group has a refused telegram,
-or one before it at most 10 km in rear of the end. Packets 5 after a packet 136 do not count. A table with such an
-authority but without any packet 5 gets one remark, if nothing in it was refused. The rule rests on SUBSET-026, 3.4.4.
+another linked group follows. The rule rests on SUBSET-026, 3.4.4.
+- The packets 5 of all aspects of the group count, and those of the groups before it on that track and way. If the
+  direction of a group is not known, its first link shows it. Packets 5 after a packet 136 do not count.
+- D_LINK shows the place of a linked group that has no kilometre.
+- A linked group follows if it has Q_LINK 1, and packets for that direction other than 0, 145, 254 and 255. It can be up
+  to 50 m beyond the end of the authority.
+- Nothing is reported if the authority ends beyond the last such group of its track and way.
+- Nothing is reported if the last link is NID_BG 16,383, because the group with repositioning information there names
+  the next ones.
+- Nothing is reported if this group has a refused telegram. The same holds if a group before it has one and is at most
+  10 km in rear of the end.
+- A table with such an authority but without any packet 5 gets one remark, if nothing in it was refused.
 
 Why it matters. At worst the train has a wrong position. Nothing shows that it missed such a group, and it does not
 correct its position there.

@@ -1,16 +1,20 @@
 """E18: level transition.
 
 What it says. The packets 41 for one level transition contradict each other, or no group orders the transition at the
-announced place. A packet 41 with D_LEVELTR 0 or 32,767 (now) is an order, and its place is that of its group. Any other
-one is an announcement, and D_LEVELTR gives the place. Packets for trains that run the same way on the same track belong
-to one transition if each place is at most 500 m from the next one. Places may differ by `--tolerance` (else 1 m) and
-rounding. M_LEVELTR and NID_NTC must be the same in the same order. If there are several orders, the one with the most
-announcements of its place counts as right, or else the first one that a train passes. If there is no order, the most
-frequent place counts. A later order with the same levels is not reported, because it repeats the first one. An order is
-only required between the first and the last group of the track. The rule is silent if the order might be in a group
-whose direction or place is unknown, or which has a refused telegram. It is also silent if the packets 5 of the
-announcement lead to another track, where the order might be. Rule E5 reports a packet 41 for both directions with a
-distance. The rule rests on SUBSET-026, 5.10 and 7.4.2.
+announced place. The rule rests on SUBSET-026, 5.10 and 7.4.2.
+- A packet 41 with D_LEVELTR 0 or 32,767 (now) is an order at its group. Any other packet 41 is an announcement, and
+  D_LEVELTR leads to its place.
+- Packets for trains that run the same way on the same track belong to one transition if each place is at most 500 m
+  from the next one.
+- Places may differ by `--tolerance` (default 1 m) and rounding. M_LEVELTR and NID_NTC must be the same in the same
+  order.
+- If there are several orders, the one with the most announcements of its place counts as right, or else the first one
+  that a train passes. If there is no order, the most frequent place counts.
+- A later order with the same levels is not reported, because it repeats the first one.
+- An order is only required between the first and the last group of the track.
+- A missing order is not reported if it might be in a group whose direction or place is unknown, or which has a refused
+  telegram. The same holds if the packets 5 of the announcement lead to another track, where the order might be.
+- Rule E5 reports a packet 41 with a distance for both directions.
 
 Why it matters. At worst the train gets wrong information. A driver acknowledges at one place, and the train changes its
 level at another. Or it goes on in a level that the track there does not support.
@@ -19,15 +23,16 @@ Example. Before (`examples/meaning/mistakes/E18.csv`): by D_LEVELTR 2,250 m Sign
 km 16.750, and the group Border orders it at km 16.700. After: D_LEVELTR is 2,200 m.
 
 When it is a false alarm. The rule assumes that all packets 41 within 500 m are for one border. There might be two
-borders, one of them on another route, or orders for trains that start there. It assumes that they have one place. A
-packet with D_LEVELTR 0 or 32,767 might be some metres from the border. It assumes one list of levels, but announcement
-and border might differ on purpose. It assumes that a group of the table orders the change, but the last announcement
-might be the only order. Trains might also leave the track: they can run through a loop, or take a route to another
-track that no packet 5 shows. {kilometres} {missing}
+borders, one of them on another route, or orders for trains that start there. It assumes that all of them lead to one
+place. A packet with D_LEVELTR 0 or 32,767 might be some metres from the border. It assumes that all of them have the
+same levels, but announcement and border might differ on purpose. It assumes that a group of the table orders the
+change, but the last announcement might be the only order. Trains might also leave the track: they can run through a
+loop, or take a route to another track that no packet 5 shows. {kilometres} {missing}
 
 Usual cause. D_LEVELTR was typed wrongly, or did not follow a moved border. Or the border has no packet 41.
 
-How to correct it. Correct each D_LEVELTR by the kilometre of the border. Put a packet 41 into the group at the border.
+How to correct it. Correct each D_LEVELTR according to the kilometre of the border. Put a packet 41 into the group at
+the border.
 
 How to accept it. Name the borders or routes of the packets that differ.
 
@@ -94,9 +99,7 @@ def _compare(
         tolerance = decoded.tolerance(options.tolerance_of_places, order.packet.unit, usual.packet.unit)
         if usual.is_now and order.along < usual.along and any(abs(each - order.place) <= tolerance for each in hidden):
             continue
-        apart, where = abs(order.place - usual.place), order.passage.at(order.packet)
-        compared = [usual.passage.at(usual.packet)]
-        values = {**order.values(), **usual.values("other_")}
+        apart = abs(order.place - usual.place)
         if order.is_now and usual.is_now and order.along > usual.along and order.levels == usual.levels:
             continue  # repeated for trains that have missed the first one
         if apart > tolerance:
@@ -110,6 +113,8 @@ def _compare(
             sentence = f"the levels are {order.words}, and {by} {usual.words} at {decoded.km(track, usual.place)}"
         else:
             continue
+        where, compared = order.passage.at(order.packet), [usual.passage.at(usual.packet)]
+        values = {**order.values(), **usual.values("other_")}
         marks = [(order.packet.row, where.direction, abs(order.place - (order.passage.place(0) or 0)))]
         yield Remark("E18", where, sentence, None, values, compared=compared, marks=marks)
 

@@ -2,11 +2,13 @@
 
 What it says. On a stretch the gradients of the two directions do not fit together: they add up to more than 1 ‰, or all
 go down. Gradients are as each train meets them. What is uphill for one direction is downhill for the other, so they
-should add up to 0. In the first case each gradient of one direction and each of the other add up to more than 1 ‰. This
-stretch is longer than `--tolerance` (else 1 m) and rounding. In the second case all of them go down by at least 3 ‰,
-for at least 1 km. Of each group without refused telegrams the longest profile counts. If several groups give gradients
-for one direction, the profile counts that contradicts the other direction least. If groups of one direction disagree
-with each other, only rule E13 reports it. The rule rests on SUBSET-026, 3.11.12.
+should add up to 0. The rule rests on SUBSET-026, 3.11.12.
+- In the first case each gradient of one direction and each of the other add up to more than 1 ‰. The stretch must be
+  longer than `--tolerance` (default 1 m) and rounding.
+- In the second case all of them go down by at least 3 ‰, for at least 1 km.
+- The longest profile of each group without refused telegrams counts. If several groups give gradients for one
+  direction, the profile counts that contradicts the other direction least.
+- If groups of one direction disagree with each other, only rule E13 reports it.
 
 Why it matters. At worst the train gets wrong information: it brakes too late, because it believes that it goes uphill.
 The braking curve is wrong by twice the gradient. If both directions go down, the urgency is lowest.
@@ -14,8 +16,8 @@ The braking curve is wrong by twice the gradient. If both directions go down, th
 Example. Before (`examples/meaning/mistakes/E19.csv`): from km 10.000 to km 10.260 Signal 1 has +3 per mille, and Signal
 R1 of the other direction has +3 per mille too. They add up to 6 per mille. After: Signal R1 has -3 per mille.
 
-When it is a false alarm. The rule assumes that each gradient is that of its place. It might be the steepest or the mean
-value of a longer stretch. Safe gradients near a summit or a valley are of this kind, and might go down in both
+When it is a false alarm. The rule assumes that each gradient is the gradient of its place. It might be the steepest or
+the mean value of a longer stretch. Safe gradients near a summit or a valley are of this kind, and might go down in both
 directions. {leaving} {kilometres} {missing} {one way}
 
 Usual cause. Q_GDIR of one direction is wrong. It might be copied from the other direction.

@@ -1,10 +1,12 @@
 """E1: raw packet that does not fit its layout.
 
-What it says. A raw packet to trains does not fit balisekit's layout of it, or has a spare value. Only layouts that are
-at least 97 % certain count. A packet does not fit if it has fewer or more bits than its layout. Spare are an M_LEVELTR
-from 5 to 7, a Q_SCALE 3, an M_MAMODE 3, and a speed above 120 that has no special meaning. The line names the first
-place that does not fit. The layouts are balisekit's own, and nobody has compared them with a printed standard. The rule
-rests on SUBSET-026, 7.4 and 7.5.1.
+What it says. A raw packet to trains does not fit balisekit's layout of this packet, or contains a spare value. The
+remark names the first place that does not fit. The rule rests on SUBSET-026, 7.4 and 7.5.1.
+- A packet does not fit if it has fewer or more bits than its layout.
+- Spare values are an M_LEVELTR from 5 to 7, a Q_SCALE 3, an M_MAMODE 3, and a speed number above 120 (600 km/h) that
+  has no special meaning.
+- The layouts are balisekit's own, and nobody has compared them with a printed standard. Only layouts that are at least
+  97 % certain are used.
 
 Why it matters. At worst the train gets wrong information: it takes the bits of one variable for another. Or it rejects
 the message.
@@ -18,7 +20,7 @@ another layout, the remark is wrong.
 Usual cause. The body was made by hand or with another tool. Or L_PACKET was not adapted. Or a condition, such as
 Q_NEWCOUNTRY or N_ITER, does not fit what follows.
 
-How to correct it. Make the packet anew, with the bits of the layout that `balisekit show` writes.
+How to correct it. Generate the packet again, with the bits of the layout that `balisekit show` writes.
 
 How to accept it. Quote the section of the printed standard that has another layout.
 

@@ -4,8 +4,8 @@ What it says. A packet 5 names its own group, or one group twice. With `--rules 
 one group. It then reports a different Q_LOCACC, and a different Q_LINKREACTION for trains of one way. The most frequent
 value counts as right. The rule rests on SUBSET-026, 3.4.4 and 7.4.2.
 
-Why it matters. At worst the train brakes without need. It waits for a group twice, or opens another expectation window
-for it than from other groups.
+Why it matters. At worst the train brakes without need. It expects one group twice, or the expectation window of a group
+depends on which group linked it. A remark that only `--rules E20` gives has the lowest urgency.
 
 Example. Before (`examples/meaning/mistakes/E20.csv` with `--rules E20`): Signal 4 links Signal 5 (km 16.000) with
 Q_LOCACC 12 m, and 2 of 3 links to it have 5 m. After: all links to Signal 5 have Q_LOCACC 5 m.
@@ -20,7 +20,7 @@ How to correct it. Correct NID_BG, Q_LOCACC or Q_LINKREACTION.
 
 How to accept it. Name the balloon loop, or state why this link has another value than the others.
 
-How sure. 95 % for the part that is always applied, and 82 % for the part for which you have to ask.
+How sure. 95 % for the part that is always applied, and 82 % for the part that `--rules E20` adds.
 """
 from __future__ import annotations
 

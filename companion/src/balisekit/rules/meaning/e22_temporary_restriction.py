@@ -1,11 +1,14 @@
 """E22: temporary speed restriction.
 
-What it says. Packets 65 have the same NID_TSR (below 255), but give different places, lengths or speeds. The rule
-compares restrictions on one track, for trains that run the same way. It compares those that begin at most 2 km from the
-next one, wherever the groups are that send them. Place and L_TSR may differ by `--tolerance` (else 1 m) and rounding.
-The most frequent restriction counts as right. A group within the restriction might send only the rest of it. Such a
-packet has D_TSR 0, and it agrees if V_TSR and the end of the restriction are the same. The proved program does not
-decode packet 65: balisekit decodes it by a layout of its own. The rule rests on SUBSET-026, 3.11.5 and 7.4.2.
+What it says. Packets 65 have the same NID_TSR (below 255), but give different places, lengths or speeds. The proved
+program does not decode packet 65: balisekit decodes it by a layout of its own. The rule rests on SUBSET-026, 3.11.5 and
+7.4.2.
+- The rule compares restrictions on one track, for trains that run the same way, if each begins at most 2 km from the
+  next one. It does not matter which groups send them.
+- Place and L_TSR may differ by `--tolerance` (default 1 m) and rounding.
+- The most frequent restriction counts as right.
+- A group within the restriction might send only the rest of it. Such a packet has D_TSR 0, and it agrees if V_TSR and
+  the end of the restriction are the same.
 
 Why it matters. At worst the train gets wrong information: the restriction begins too late, ends too early, or has
 another speed.
@@ -18,9 +21,9 @@ have the same number, if one of them is on another route. It assumes that all pa
 exactly. D_TSR or L_TSR might be on the safe side, or might depend on the aspect or the route. {kilometres} {missing}
 {one way}
 
-Usual cause. D_TSR was not made anew for the second group. Or a restriction was changed in one group only.
+Usual cause. D_TSR was not generated again for the second group. Or a restriction was changed in one group only.
 
-How to correct it. Correct D_TSR, L_TSR and V_TSR by the list of restrictions.
+How to correct it. Correct D_TSR, L_TSR and V_TSR according to the list of restrictions.
 
 How to accept it. Name both restrictions in the list of restrictions, or the route of this one.
 

@@ -1,11 +1,13 @@
 """E23: version or country differs from the rest of the line.
 
 What it says. A telegram has another M_VERSION than most of the table, or a group has another NID_C than its neighbours
-on the track. The rule compares each M_VERSION with the most frequent one of the table. For NID_C, the rule takes the
-most frequent value of the track. It checks only the groups between the first and the last group with this NID_C. If two
-values are equally frequent, the one that comes first counts. The order of the groups is that of their kilometres, or
-that of the table if a kilometre is missing. Refused telegrams do not count. The rule is off unless you ask for it with
-`--rules E23`. The rule rests on SUBSET-026, 7.5.1 and 8.4.2.
+on the track. The rule is off unless you ask for it with `--rules E23`. The rule rests on SUBSET-026, 7.5.1 and 8.4.2.
+- The most frequent M_VERSION of the table counts as right.
+- For NID_C, the most frequent value of the track counts as right. Only the groups between the first and the last group
+  with this value are compared.
+- If two values are equally frequent, the one that comes first counts. The order of the groups is the order of their
+  kilometres, or of the table if a kilometre is missing.
+- Refused telegrams do not count.
 
 Why it matters. To be looked at: a train with the older version ignores what the later one has added. A group with a
 wrong NID_C is another group for the train. L1 finds links that name the group by another NID_C.
@@ -79,8 +81,8 @@ def _countries(groups: List[GroupData]) -> Iterator[Remark]:
     counts = Counter(country for country, _ in known)
     usual = max(counts, key=lambda country: counts[country], default=0)
     places = [place for place, (country, _) in enumerate(known) if country == usual]
-    facts = [counted(group_words(known[place][1].group) for place in places)]
-    for country, data in known[places[0] : places[-1]] if places else ():
+    facts = [counted(group_words(known[place][1].group) for place in places)] if len(counts) > 1 else []
+    for country, data in known[places[0] : places[-1]] if len(counts) > 1 else ():
         if country != usual:
             sentence = f"NID_C is {country}, and {usual} in {counts[usual]} groups of the track, on both sides of it"
             values = {"nid_c": Decimal(country), "other_nid_c": Decimal(usual)}

@@ -1,12 +1,12 @@
 """E2: speed or gradient out of range.
 
-What it says. V_MAIN, V_LOA, V_STATIC, V_DIFF, V_TSR or V_MAMODE is above `--line-speed` (else 350 km/h), a release
-speed above `--release-speed` (else 40 km/h), or G_A above 40 ‰. Special values, such as the end mark, are no speeds or
-gradients. With `--rules E2` the rule also reports a V_MAIN that is above the greatest speed of the speed profiles in
+What it says. V_MAIN, V_LOA, V_STATIC, V_DIFF, V_TSR or V_MAMODE is above `--line-speed` (default 350 km/h), a release
+speed above `--release-speed` (default 40 km/h), or G_A above 40 ‰. Special values, such as the end mark, are no speeds
+or gradients. With `--rules E2` the rule also reports a V_MAIN that is above the greatest speed of the speed profiles in
 the same message. The rule rests on SUBSET-026, 3.8, 3.11 and 7.5.1.
 
 Why it matters. At worst the train gets wrong information. A speed that is too great does not restrict the train. With a
-wrong gradient it brakes too early or too late.
+wrong gradient the train brakes too early or too late.
 
 Example. Before (`examples/meaning/mistakes/E2.csv`): at "green" of Signal 3 (km 13.003) V_MAIN is sent as 120, which is
 600 km/h and above 350 km/h. After: V_MAIN is sent as 24, which is 120 km/h.
@@ -25,7 +25,7 @@ How to correct it. Correct the value. If the line is faster, state its greatest 
 How to accept it. Give the greatest speed or gradient of this place by the track plan as the reason.
 
 How sure. 92 %, by practice and memory of the standard. The part about V_MAIN and the profile is less than 85 % sure, so
-it is off unless you ask for it.
+it is off without `--rules E2`.
 """
 from __future__ import annotations
 

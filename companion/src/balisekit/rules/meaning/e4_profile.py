@@ -1,11 +1,14 @@
 """E4: profile that contradicts itself.
 
-What it says. A profile has two elements at one place, elements after the end mark, V_STATIC 0, or an element that
-needlessly repeats the one before it. Two elements are at one place if the second one has D_GRADIENT or D_STATIC 0. An
-end mark that is the first element is reported too. A repeated element has the same gradient as the one before it, or
-the same speed, Q_FRONT and categories. It is needless if a single distance of at most 32,767 units could cover both.
-The rule also reports a train category that an element has twice. It reports a V_DIFF by cant deficiency that is below
-V_STATIC, or that falls while NC_CDDIFF rises. The rule rests on SUBSET-026, 3.11 and 7.4.2.
+What it says. A gradient or speed profile has elements that contradict or repeat each other, such as two elements at one
+place. The rule rests on SUBSET-026, 3.11 and 7.4.2, and reports these cases:
+- Two elements are at one place, because the second one has D_GRADIENT or D_STATIC 0.
+- Elements follow the end mark, or the end mark is the first element.
+- An element of a speed profile has V_STATIC 0.
+- An element needlessly repeats the one before it: it has the same gradient, or the same speed, Q_FRONT and categories.
+  It is needless if a single distance of at most 32,767 units could cover both.
+- An element has the same train category twice.
+- A V_DIFF by cant deficiency is below V_STATIC, or falls while NC_CDDIFF rises.
 
 Why it matters. At worst the train gets wrong information. Of two elements at one place only one can hold. What follows
 an end mark is not used. A repeated element often hides a change of speed or gradient that was meant.
@@ -24,7 +27,7 @@ with end marks.
 Usual cause. The elements were sorted wrongly, or one was entered twice. Or a distance was forgotten. Or an end mark is
 left from a shorter profile, or a value of the categories was typed wrongly.
 
-How to correct it. Correct or remove the wrong element by the profile of the track.
+How to correct it. Correct or remove the wrong element according to the profile of the track.
 
 How to accept it. Name the habit of the tool that made the data, or the place beyond which no train runs.
 

@@ -1,21 +1,23 @@
 """E6: packets of one message.
 
-What it says. A balise has one of five packets that only radio sends, packet 0 after another one, or a train gets two
-packets 5 that count from one group. The five are 15, 57, 58, 63 and 140. The train gets both packets 5 in one message
-and for one direction. Packets after a packet 136 are counted separately. With `--rules E6` the rule also reports two
-different packets of one kind in one direction. The kinds are 2, 3, 12, 15, 16, 21, 27, 41, 45, 46, 80, 131, 132, 136,
-137, 141 and 254. It then also reports a packet 0, 6, 12, 16, 46, 90, 132 to 137, 145 or 254 in a message 3. The rule
-rests on SUBSET-026, 7.4 and 8.4.4.
+What it says. A balise has a packet that only radio sends, or a packet 0 after another packet, or a train gets two
+packets 5 at once. The rule rests on SUBSET-026, 7.4 and 8.4.4.
+- Only radio sends the packets 15, 57, 58, 63 and 140.
+- A train gets two packets 5 at once if both are in one message and hold in one direction. Packets before and after a
+  packet 136 are counted separately.
+- With `--rules E6` the rule also reports two different packets of one kind in one direction. The kinds are 2, 3, 12,
+  15, 16, 21, 27, 41, 45, 46, 80, 131, 132, 136, 137, 141 and 254.
+- With `--rules E6` it also reports a packet 0, 6, 12, 16, 46, 90, 132 to 137, 145 or 254 in a message 3.
 
 Why it matters. At worst the train gets wrong information. It might use either of two packets, or reject the message. It
-does not use a packet that only radio sends.
+does not use a packet that only radio sends, and it looks for a packet 0 only at the beginning of a telegram.
 
 Example. Before (`examples/meaning/mistakes/E6.csv`): at "yellow" of Signal 3 (km 13.003) a train gets 2 packets 5 in
 nominal direction, in rows 10 and 12. After: only row 10 has a packet 5.
 
-When it is a false alarm. Never, unless a project sends two packets 5 for one direction on purpose. It might do so with
-a fixed and a switched one, or with the same packet in two balises. With `--rules E6`, packets of one kind might differ
-on purpose.
+When it is a false alarm. Never, unless a project sends two packets 5 for one direction on purpose. For example, one
+packet 5 is fixed and the other one is switched, or two balises have the same packet 5. With `--rules E6`, packets of
+one kind might differ on purpose.
 
 Usual cause. Telegrams were put together from parts that both have the packet. Or a packet was copied from a message of
 the other kind.
@@ -24,7 +26,7 @@ How to correct it. Remove the packet that is not needed, or put packet 0 at the 
 
 How to accept it. Quote the rule of the project by which both packets are sent.
 
-How sure. 96 %, by practice and memory of the standard. The part for which you have to ask is 80 % sure.
+How sure. 96 %, by practice and memory of the standard. What only `--rules E6` reports is 80 % sure.
 """
 from __future__ import annotations
 

@@ -1,13 +1,15 @@
 """E7: aspects that say the same.
 
-What it says. Aspects of a group have equal packets in every balise, among them a packet 12 with V_MAIN above 0.
-M_MCOUNT may differ. If no packet 12 of such aspects has a V_MAIN above 0, one note for the table counts them.
+What it says. Two or more aspects of a group have equal packets in every balise, among them a packet 12 with V_MAIN
+above 0. M_MCOUNT may differ. If no packet 12 of such aspects has a V_MAIN above 0, one note for the table counts them.
 
 Why it matters. At worst the train gets wrong information: at the more restrictive aspect it gets the authority and the
-speed of the other one. The urgency is lowest if the authority ends within 50 m of the last group of its track and way,
-and no other signal is in between. The last group is the last one that has packets other than 0, 145, 254 and 255 for
-trains that run this way. A group of unknown direction, or with a refused telegram, counts for both ways. A remark about
-infill has the lowest urgency if the remark about its signal has it.
+speed of the other one.
+- The urgency is lowest if the authority ends within 50 m of the last group of its track and way, and no other signal is
+  in between.
+- The last group is the last one with packets other than 0, 145, 254 and 255 for trains that run this way. A group of
+  unknown direction, or with a refused telegram, counts for both ways.
+- A remark about infill has the lowest urgency if the remark about its signal has it.
 
 Example. Before (`examples/meaning/mistakes/E7.csv`): the aspects "yellow" and "green" of Signal 3 (km 13.003) have the
 same packets, with V_MAIN 140 km/h. After: the authority of "yellow" ends at the next signal, and that of "green" at the
@@ -21,7 +23,7 @@ urgency.
 
 Usual cause. The telegram of one aspect was copied and not changed.
 
-How to correct it. Correct the wrong telegram by the aspect table of the signal.
+How to correct it. Correct the wrong telegram according to the aspect table of the signal.
 
 How to accept it. State why both aspects give a train the same data, for example because the track ends there.
 

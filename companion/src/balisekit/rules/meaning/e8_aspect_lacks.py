@@ -1,14 +1,19 @@
 """E8: aspect that lacks what its siblings have.
 
-What it says. Only one of three or more proceed aspects lacks a packet 5, 12, 21 or 27, or a stop aspect lacks a usual
-packet 137 or 132. The proceed aspects are compared in each direction. A proceed aspect has a V_MAIN above 0 in that
-direction, or in either direction if it is packet 12 that is missing. Such a packet might also be there for the wrong
-direction. So the rule reports the only aspect that has the packet for one direction, if at least two others have it for
-the other direction only. A stop aspect has a packet 12 with V_MAIN 0 that does not follow a packet 136. It is reported
-if it has no packet 137, although at least four of five stop aspects of the table have one with "stop". The table must
-have at least five stop aspects for this. A stop aspect is also reported if it is the only one of three or more aspects
-in its group without a packet 132. This applies only if a stop aspect of the same name has one elsewhere. Aspects with a
-refused telegram do not count, and their group is compared only for packet 137. The rule rests on SUBSET-026, 3.8.
+What it says. One aspect of a group lacks a packet that its other aspects, or other stop aspects of the table, have. The
+rule rests on SUBSET-026, 3.8.
+- Of three or more proceed aspects of a group, the only one without a packet 5, 12, 21 or 27 for a direction is
+  reported.
+- A proceed aspect has a V_MAIN above 0 in that direction. If it is the packet 12 that is missing, a V_MAIN above 0 in
+  either direction is enough.
+- An aspect might also have such a packet for the wrong direction. It is reported if it is the only one with the packet
+  for that direction, and at least two others have it only for the other direction.
+- A stop aspect has a packet 12 with V_MAIN 0 that does not follow a packet 136. It is reported if it has no packet 137,
+  and at least four of five stop aspects of the table have one with "stop". The table must have at least five stop
+  aspects for this.
+- A stop aspect is also reported if it is the only one of three or more stop aspects of its group without a packet 132.
+  The table must have a stop aspect of the same name with a packet 132.
+- Aspects with a refused telegram do not count, and their group is compared only for packet 137.
 
 Why it matters. At worst the train gets wrong information, or lacks what it needs. Without profiles it might refuse the
 authority. Without linking nothing shows that it missed a group. Without packet 137 a train in staff responsible mode
@@ -24,7 +29,7 @@ might also need fewer. The rule also assumes that all stop aspects of the table,
 staff responsible mode too. At some signals these trains are allowed to pass. Finally, it assumes that stop aspects of
 one name treat shunting alike, which is not so if shunting is allowed at some.
 
-Usual cause. A packet was lost, or its Q_DIR is wrong. The aspect was added later.
+Usual cause. A packet was lost, or its Q_DIR is wrong. Or the aspect was added later and is not complete.
 
 How to correct it. Add the packet, or correct Q_DIR.
 

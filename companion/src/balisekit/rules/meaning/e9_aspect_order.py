@@ -1,11 +1,16 @@
 """E9: aspects in the wrong order.
 
 What it says. At this signal one proceed aspect leads as far as another one or farther, although it leads less far in
-most cases of the table. For example, yellow leads as far as green or farther. Here, most cases means at least three
-cases, and at least four of every five. Proceed aspects have a V_MAIN above 0, and the two have different packets. A
-case is a group that has both aspects in one direction. The rule also reports an aspect with V_MAIN 0 if this name has a
-V_MAIN above 0 in most cases, and the reverse. Aspects with a refused telegram do not count. Authorities are equal if
-they differ by no more than `--tolerance` (else 1 m) and the rounding of lengths. The rule rests on SUBSET-026, 3.8.
+most cases of the table. For example, yellow leads as far as green or farther. The rule rests on SUBSET-026, 3.8.
+- Most cases means at least three cases, and at least four of every five. A case is a group that has both aspects in one
+  direction.
+- Proceed aspects have a V_MAIN above 0, and the two must have different packets.
+- Authorities end at the same distance if they differ by no more than `--tolerance` (default 1 m) and the rounding of
+  lengths.
+- The rule also reports an aspect with V_MAIN 0 whose name has a V_MAIN above 0 in most cases. In the same way it
+  reports a V_MAIN above 0 if the name has V_MAIN 0 in most cases. Here a case is a group that has this aspect in one
+  direction.
+- Aspects with a refused telegram do not count.
 
 Why it matters. At worst the train gets wrong information. At yellow it gets the authority of green, and might run
 beyond a signal at danger. A red aspect with V_MAIN above 0 does not stop it. Authorities that are only equal have the

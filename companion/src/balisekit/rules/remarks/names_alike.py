@@ -1,8 +1,8 @@
 """names alike: two names look alike and differ.
 
 What it says. Two groups, aspects or tracks of the table have names that differ by characters without ink, by letters of
-another script or by the way an accent is written. Two tracks have names that differ in case or blanks only. Groups of
-which that holds have a note of their own.
+another script or by the way an accent is written. Two tracks have names that differ only in case, in blanks or in how
+a number is written, such as 1 and 01. Groups whose names differ in case or blanks only have a note of their own.
 
 Why it matters. To be looked at: what reads as one group or aspect is checked as two.
 
@@ -28,6 +28,8 @@ LOOK_ALIKE = str.maketrans(
     "АВЕЅЗІЈКМНОРСТУХаеѕіјорсухԁԛԝΑΒΕΖΗΙΚΜΝΟΡΤΥΧοѵ‐‑‒–—−", "ABES3IJKMHOPCTYXaesijopcyxdqwABEZHIKMNOPTYXov------"
 )
 """Letters of Cyrillic and Greek, and dashes, each as the one of Latin that it looks like."""
+NUMBER = re.compile(r"(?<![0-9.,])0*([0-9]+)(?:[.,]0+)?(?![0-9]|[.,][0-9])")
+"""A number, which spreadsheets and people write with more or fewer zeros: 1, 01, 1.0."""
 
 
 def find(line: Line, options: Options) -> Result:
@@ -47,8 +49,12 @@ def _compare(what: str, named: Dict[str, Row]) -> Iterator[Remark]:
         return
     first: Dict[str, str] = {}
     for name, row in reversed(list(named.items())):
-        other = first.setdefault(_look(name), name)
-        if _folded(other) != _folded(name):
+        seen = _look(name)
+        other = first.setdefault(NUMBER.sub(r"\1", seen) if what == TRACKS else seen, name)
+        if _look(other) != seen:
+            sentence = f"{what} {quoted(other)} and {quoted(name)} differ only in how a number is written"
+            yield Remark(RULE.name, Location(row=row), sentence)
+        elif _folded(other) != _folded(name):
             sentence = f"{what} {quoted(other)} and {quoted(name)} look alike, and differ by {_differing(other, name)}"
             yield Remark(RULE.name, Location(row=row), sentence)
         elif what == TRACKS and other != name:

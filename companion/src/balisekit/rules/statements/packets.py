@@ -59,14 +59,8 @@ def _packet_differs(other: Balise, where: str, words: str, mine: Form, yours: Fo
 
 def _part(change: Change) -> str:
     """Where in its packet a difference is: "the first difference of the second element of "."""
-    parts = change.where.replace(" of the old release", "").split("  ") if change.where else []
-    return "".join(f"the {_with_ordinal(part)} of " for part in reversed(parts))
-
-
-def _with_ordinal(part: str) -> str:
-    """The item of a list, "element 1" as "second element"; a part of another kind as it is."""
-    name, _, place = part.rpartition(" ")
-    return f"{ordinal(int(place))} {name}" if name and place.isdigit() else part
+    steps = (step.name if step.item is None else f"{ordinal(step.item)} {step.name}" for step in change.where[::-1])
+    return "".join(f"the {step} of " for step in steps)
 
 
 def not_modelled(scene: Scene) -> Statement:

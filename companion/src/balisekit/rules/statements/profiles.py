@@ -5,12 +5,11 @@ from typing import Dict, Optional, Tuple
 
 from balisekit.etcs.geometry import INFILL, Authority, Origin, Site, authority, holds, origins, passed, profile
 from balisekit.etcs.packets import packet_name
-from balisekit.etcs.variables import metres
+from balisekit.etcs.variables import metres, number_of_metres
 from balisekit.rules.statements.scene import Scene, Statement, packet_words
 
 KINDS = {10: 21, 11: 21, 12: 27, 13: 27}
 """The NID_PACKET of the profile that the rule is about."""
-WITH = " with "
 
 
 def no_profile(scene: Scene) -> Statement:
@@ -24,17 +23,17 @@ def no_profile(scene: Scene) -> Statement:
     about = ", ".join([packet_name(packet["nid_packet"]), *(f"V_MAIN {value}" for value in speed.values())])
     of = "" if scene.own.row is None else f" of {scene.aspect[site.balise]}"
     more = f" and {len(authorities) - 1} more" if len(authorities) > 1 else ""
-    sentence = f"no packet {number} ({packet_name(number)}){WITH}packet {packet['nid_packet']} ({about}){of}{more}"
+    sentence = f" with packet {packet['nid_packet']} ({about}){of}{more}"
     before, rows = _elsewhere(scene, number, direction)
-    return Statement(sentence + before, rows, values=speed, packet=number)
+    lacking = f"no packet {number} ({packet_name(number)})"
+    return Statement(sentence + before, rows, values=speed, packet=number, lacking=lacking)
 
 
 def neither_profile(one: Statement, other: Statement) -> Optional[Statement]:
     """What F10 and F12 say together of an authority without any profile; None if what they say of it differs."""
-    (gradient, _, about), (speed, _, same) = (said.before.partition(WITH) for said in (one, other))
-    if (about, one.others) != (same, other.others):
+    if (one.before, one.others) != (other.before, other.others):
         return None
-    return one._replace(before=f"{gradient} and {speed}{WITH}{about}", packet=None)
+    return one._replace(lacking=f"{one.lacking} and {other.lacking}", packet=None)
 
 
 def _elsewhere(scene: Scene, number: int, direction: str) -> Tuple[str, Tuple[int, ...]]:
@@ -71,7 +70,7 @@ def profile_short(scene: Scene) -> Statement:
         _place(scene, name, place_dm, known.get(at, Origin.OWN), values)
         for name, place_dm, at in (("reach", reach, site), ("supervised_location", farthest.supervised, farthest.site))
     ]
-    values["missing_m"] = metres(missing)[: -len(" m")]
+    values["missing_m"] = number_of_metres(missing)
     sentence = (
         f"{packet_words(forms[site.balise], site.packet)}, reaches {words[0]}, and the supervised location, "
         f"{_what(farthest)}, is at {words[1]}: {metres(missing)} missing, "
@@ -94,10 +93,10 @@ def _what(farthest: Authority) -> str:
 
 def _place(scene: Scene, name: str, place_dm: int, origin: Origin, values: Dict[str, str]) -> str:
     """A place in metres, and in kilometres if they are known. Behind a packet 136 it counts from another group."""
-    values[f"{name}_m"] = metres(place_dm)[: -len(" m")]
+    values[f"{name}_m"] = number_of_metres(place_dm)
     if origin is not Origin.OWN:
         return f"{metres(place_dm)} from the group of packet {INFILL}"
-    km = scene.kilometres.words(place_dm, scene.finding.direction or "")
+    km = scene.aspects.kilometres.words(place_dm, scene.finding.direction or "")
     if not km:
         return metres(place_dm)
     values[f"{name}_km"] = km

@@ -3,10 +3,10 @@ from __future__ import annotations
 
 import json
 from functools import cached_property
-from typing import Dict, List, Mapping, NamedTuple, Optional, Sequence, Tuple
+from typing import Dict, Iterable, List, Mapping, NamedTuple, Optional, Sequence, Tuple
 
 from balisekit.engine.grammar import Finding
-from balisekit.etcs.geometry import Kilometres
+from balisekit.etcs.geometry import Kilometres, kilometres
 from balisekit.etcs.packets import packet_name
 from balisekit.etcs.variables import Around, Form, value_words
 from balisekit.tables.model import Group, Row
@@ -17,6 +17,7 @@ class Statement(NamedTuple):
     """What is wrong. Its sentence names other rows in one place, so that those of several aspects can be united."""
 
     before: str
+    """The sentence up to the rows."""
     others: Tuple[int, ...] = ()
     """The other rows that it names."""
     after: str = ""
@@ -26,9 +27,11 @@ class Statement(NamedTuple):
     """The NID_PACKET of the packet that it is about."""
     further: Tuple[int, ...] = ()
     """The rows that its end names."""
+    lacking: str = ""
+    """What is missing, if the sentence begins with it."""
 
     def __str__(self) -> str:
-        return f"{self.before}{f', {rows_words(self.others)}' if self.others else ''}{self.after}"
+        return f"{self.lacking}{self.before}{f', {rows_words(self.others)}' if self.others else ''}{self.after}"
 
 
 class BaliseName(NamedTuple):
@@ -80,6 +83,20 @@ Aspect = Sequence[Balise]
 class Aspects(List[Aspect]):
     """The balises of each aspect of a group, or the message alone, and what each of many findings asks of them all."""
 
+    def __init__(self, aspects: Iterable[Aspect], group: Optional[Group] = None) -> None:
+        """`group` is their group. Of a message it is the group from which its distances count, if that is known."""
+        super().__init__(aspects)
+        self._group = group
+
+    @property
+    def kilometres(self) -> Kilometres:
+        """What the table says of the place of the group."""
+        return kilometres(self._group) if self._group else Kilometres()
+
+    def name(self, index: int) -> str:
+        """The name of an aspect."""
+        return self._group.aspects[index].name if self._group else ""
+
     @cached_property
     def forms(self) -> Sequence[Sequence[Form]]:
         """The telegrams of each aspect, or the message."""
@@ -126,9 +143,6 @@ class Scene(NamedTuple):
 
     finding: Finding
     aspects: Aspects
-    names: Sequence[str] = ("",)
-    """The names of the aspects."""
-    kilometres: Kilometres = Kilometres()
     earlier: Optional[Group] = None
     """Of F14: the first group with the same identity."""
 
@@ -156,7 +170,8 @@ class Scene(NamedTuple):
         """Which aspect it is, if there are several."""
         if len(self.aspects) == 1:
             return ""
-        return f"aspect {quoted(self.names[index])}" if self.names[index] else f"the {ordinal(index)} aspect"
+        name = self.aspects.name(index)
+        return f"aspect {quoted(name)}" if name else f"the {ordinal(index)} aspect"
 
 
 def packet_words(form: Form, place: int) -> str:

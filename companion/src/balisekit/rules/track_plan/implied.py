@@ -79,7 +79,7 @@ def _stretches(placed: PlacedPlan, number: int, skipped: Dict[str, int]) -> Iter
     for saying in placed.sayings(number):
         passage, group = saying.passage, saying.passage.group
         found = [(span(saying, element), element.value) for element in saying.packet.stretches]
-        for why in {why for (_, why), _ in found if why}:
+        for why in dict.fromkeys(why for (_, why), _ in found if why):
             skipped[why] += 1
         for (ends, _), value in found:
             if ends and group and passage.way:

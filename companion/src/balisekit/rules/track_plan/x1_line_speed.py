@@ -1,8 +1,10 @@
 """X1: speed other than in the plan.
 
 What it says. A speed profile has a V_STATIC that is not the line speed of the plan, on a stretch longer than
-`--tolerance` (else 1 m) and rounding. Stretches that touch count as one. Speeds for train categories are not compared,
-nor is what follows a packet 136. {beyond a point} The rule rests on SUBSET-026, 7.4.2 and 7.5.1.
+`--tolerance` (default 1 m) and rounding. Stretches that touch count as one. The rule rests on SUBSET-026, 7.4.2 and
+7.5.1.
+- Speeds for train categories are not compared, nor is what follows a packet 136.
+- {beyond a point}
 
 Why it matters. At worst the train gets wrong information, and might run faster than the track allows. A speed that is
 lower than in the plan only slows trains.
@@ -10,9 +12,9 @@ lower than in the plan only slows trains.
 Example. Before (`examples/meaning/level-border.csv` with `--plan` `examples/meaning/plan.csv`): V_STATIC of Signal 6 is
 100 km/h from km 17.990 to km 20.700, and the plan has 80 km/h there. After: both have the speed of the track.
 
-When it is a false alarm. The rule assumes that the plan has the speed that V_STATIC must have, and not that of a train
-category. {track speed} {exact} A profile without a short higher speed is also on the safe side. {leaving} {points}
-{kilometres} {missing} {one way}
+When it is a false alarm. The rule assumes that the plan has the speed that V_STATIC must have, and not the speed of a
+train category. {track speed} {exact} A profile without a short higher speed is also on the safe side. {leaving}
+{points} {kilometres} {missing} {one way}
 
 Usual cause. A speed was typed in km/h and not in steps of 5 km/h. Or the place of a change of speed was counted from
 another group. Or Q_SCALE is not the scale of the distances. Or the line speed has changed since the telegrams were

@@ -1,9 +1,11 @@
 """X2: gradient other than in the plan.
 
-What it says. A gradient profile has another gradient than the plan, on a stretch longer than `--tolerance` (else 1 m)
-and rounding. Stretches that touch count as one. Uphill is positive. In the packet, Q_GDIR states this as the train sees
-it. In the plan, it is seen in the way of the row. What follows a packet 136 is not compared. {beyond a point} The rule
-rests on SUBSET-026, 7.4.2 and 7.5.1.
+What it says. A gradient profile has another gradient than the plan, on a stretch longer than `--tolerance` (default 1
+m) and rounding. Stretches that touch count as one. The rule rests on SUBSET-026, 7.4.2 and 7.5.1.
+- Uphill is positive. In the packet it is uphill for the train that gets the packet. In the plan it is uphill for a
+  train of the row's way, or for a rising train if the row has no way.
+- What follows a packet 136 is not compared.
+- {beyond a point}
 
 Why it matters. At worst the train gets wrong information: it brakes too late if the gradient is less downhill than the
 track. A gradient that is more downhill makes it brake early.

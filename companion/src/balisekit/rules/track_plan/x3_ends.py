@@ -1,12 +1,15 @@
 """X3: end of authority at no signal of the plan.
 
-What it says. A movement authority that lets trains run ends where the plan has no signal for them. If the plan has no
-signal at all for a track and way, authorities there are not compared. The line names the plan's nearest signal and its
-distance. Authorities are packets 12 with V_MAIN above 0 and packets 15, if they have a length. Each ends at the end of
-its end section. The end may differ by `--tolerance` (0 without it) and by one unit of the last decimal of the
-kilometres, at most 1 m. It may also differ by one unit of Q_SCALE, and half a unit for each further section. If the
-plan has one signal for a track and way, it must contain all signals at which authorities of that way end. What follows
-a packet 136 is not compared. {beyond a point} The rule rests on SUBSET-026, 7.4.2 and 7.5.1.
+What it says. A movement authority that lets trains run ends at a place where the plan has no signal for these trains.
+The remark names the plan's nearest signal and its distance. The rule rests on SUBSET-026, 7.4.2 and 7.5.1.
+- Such authorities are packets 12 with V_MAIN above 0 and packets 15, if they have a length. Each ends at the end of its
+  end section.
+- The end may differ by `--tolerance` (default 0) and by one unit of the last decimal of the kilometres, at most 1 m. It
+  may also differ by one unit of Q_SCALE, and half a unit for each further section.
+- If the plan has no signal at all for a track and way, authorities there are not compared. If it has at least one, it
+  must contain all signals at which authorities of that way end.
+- What follows a packet 136 is not compared.
+- {beyond a point}
 
 Why it matters. At worst the train gets wrong information, and stops beyond the signal. Or it stops too far in rear of
 the signal.
@@ -20,12 +23,13 @@ border or limit of authority (V_LOA above 0), or the end of a calling-on route m
 the plan as signals. In limited supervision an authority might end at no signal. {leaving} {points} {kilometres}
 {missing} {one way}
 
-Usual cause. A section is missing or was counted twice. Or the length was taken to another signal, or from another
+Usual cause. A section is missing or was counted twice. Or the length was measured to another signal, or from another
 group.
 
 How to correct it. Correct L_SECTION and L_ENDSECTION, or the row of the plan.
 
-How to accept it. Name what is at the end of the authority. If it stays there, write it into the plan instead.
+How to accept it. Name what is at the end of the authority. If the authority will always end there, write that place
+into the plan instead.
 """
 from __future__ import annotations
 

@@ -1,10 +1,12 @@
 """X4: aspect other than in the route table of the plan.
 
-What it says. The packet 12 of an aspect differs from its row of the plan in V_MAIN, end, overlap or release speed. The
-end is its distance from the group. The release speed is that of the overlap, or of the danger point if there is no
-overlap. Lengths may differ by the rounding of Q_SCALE and by `--tolerance`. A row of the plan for an aspect without a
-packet 12 for that way is reported too. What follows a packet 136 is not compared. The rule rests on SUBSET-026, 7.4.2
-and 7.5.1.
+What it says. The packet 12 of an aspect differs from the plan's row for this aspect in V_MAIN, end, overlap or release
+speed. A row of the plan is also reported if its aspect has no packet 12 for trains of the row's way. The rule rests on
+SUBSET-026, 7.4.2 and 7.5.1.
+- The end of authority is compared as a distance from the group.
+- The release speed belongs to the overlap, or to the danger point if there is no overlap.
+- Lengths may differ by the rounding of Q_SCALE and by `--tolerance` (default 0).
+- What follows a packet 136 is not compared.
 
 Why it matters. At worst the train gets wrong information: it runs farther or faster than the route that is set for it
 allows.
@@ -12,11 +14,12 @@ allows.
 Example. Before (`examples/meaning/level-border.csv` with `--plan` `examples/meaning/plan.csv`): at "yellow" Signal 9
 (km 22.003) has V_MAIN 140 km/h, and the plan has 100 km/h. After: both have the speed of the route.
 
-When it is a false alarm. The rule assumes that the plan has the values of the packet. It might have those of the route,
-and the packet might reduce one, state one that does not restrict, or be for limited supervision. The rule assumes that
-each aspect of the plan has a packet 12. An aspect might lack it on purpose, such as one that stops trains by other
-packets. It assumes that a row of the plan and the packet are for the same way. That is not so if a group has packets
-for both directions, and its rows state no `way`. Finally, it assumes that lengths are rounded as Q_SCALE states.
+When it is a false alarm. The rule assumes that the plan has the values that the packet must have. If it has the values
+of the route, the packet can differ on purpose. It might have a lower speed or one that does not restrict, or be for
+limited supervision. The rule assumes that each aspect of the plan has a packet 12. An aspect might have none on
+purpose, for example because it stops trains by other packets. It assumes that a row of the plan and the packet are for
+the same way. This is wrong if a group has packets for both directions, and its rows state no `way`. Finally, it assumes
+that lengths are rounded no more coarsely than to the unit of Q_SCALE.
 
 Usual cause. The telegrams of two aspects were exchanged. Or a value was copied from another signal. Or the route table
 has changed since the telegrams were made.

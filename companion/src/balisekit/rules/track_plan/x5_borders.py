@@ -1,31 +1,35 @@
 """X5: level or RBC border other than in the plan.
 
-What it says. A packet 41, 42, 46 or 131 gives another place, level or RBC than a border of the plan. Or the plan has a
-border that no packet names. A packet 41 or 131 is compared with the nearest border of its kind for trains of that way.
-A packet 46 must have the levels beyond the last border in rear of its group. A packet 42 that establishes a session
-must name one of two RBCs: the RBC beyond the next border ahead, or the RBC beyond the last border in rear. NID_RBC
-16,383 (the last known RBC) is not compared. Places may differ by `--tolerance` (0 without it), by one unit of Q_SCALE
-and by one unit of the last decimal of the kilometres, at most 1 m. If the plan has one border of a kind for a track and
-way, it must contain all borders of this kind for them. If the track begins in the area of an RBC, the plan also needs a
-row `rbc` in rear of the first group. A border of the plan within the table that no packet names is reported at the
-nearest group. It is not reported if a telegram of its track was refused. It is not reported either if the track has a
-packet of this kind that cannot be compared. Such a packet has no known place or direction, is beyond a `point`, or
-follows a packet 136. The rule rests on SUBSET-026, 7.4.2 and 7.5.1.
+What it says. A packet 41, 42, 46 or 131 gives another place, level or RBC than the plan, or the plan has a border that
+no packet names. The rule rests on SUBSET-026, 7.4.2 and 7.5.1.
+- A packet 41 or 131 is compared with the nearest border of its kind for trains of that way.
+- A packet 46 must have the levels beyond the last border in rear of its group.
+- A packet 42 that establishes a session must name one of two RBCs: the RBC beyond the next border ahead, or the RBC
+  beyond the last border in rear. NID_RBC 16,383 (the last known RBC) is not compared.
+- Places may differ by `--tolerance` (default 0), by one unit of Q_SCALE and by one unit of the last decimal of the
+  kilometres, at most 1 m.
+- If the plan has no border of a kind (level or RBC) for a track and way, packets about such borders are not compared
+  there. If it has one, it must contain all borders of this kind. If the track begins in the area of an RBC, the plan
+  also needs a row `rbc` in rear of the first group.
+- A border of the plan within the table that no packet names is reported at the nearest group. It is not reported if its
+  track has a refused telegram, or a packet about such borders that cannot be compared. Such a packet has no known place
+  or direction, leads beyond a `point`, or follows a packet 136. If a packet 41, 42, 46 or 131 of the table could not be
+  decoded, no such border is reported.
 
-Why it matters. At worst the train gets wrong information. It is in a level that the track does not support there, or
+Why it matters. At worst the train gets wrong information. It runs in a level that the track does not support there, or
 asks the wrong RBC for its authority.
 
 Example. Before (`examples/meaning/level-border.csv` with `--plan` `examples/meaning/plan.csv`): Signal 4 (km 14.500)
-announces level 0 at km 16.700, and the plan has the border at km 16.750, 50 m away. After: both have the place of the
-border.
+announces level 0 at km 16.700, and the plan has the border at km 16.750, 50 m away. After: Signal 4 announces the level
+at the place that the plan has.
 
-When it is a false alarm. The rule assumes that the plan has the borders of all trains and routes. It might lack those
-of trains that have no radio or start near a border, or an RBC of another route. The rule assumes that orders are
-exactly at the border. A packet that orders the change at its own group might be some metres from the border. Its
-distance is 0, or 32,767 for now. An order might also be repeated beyond the border. Write such places into the plan. It
-assumes that packets have the levels of the plan, but announcement and border might differ on purpose. It assumes that
-groups of the own track name each border. Only radio, another track or a group beyond the table might do so, or the
-table might have one way only. {leaving} {points} {kilometres} {missing} {one way}
+When it is a false alarm. The rule assumes that the plan has the borders of all trains and routes. It might lack a
+border for trains that have no radio or start near a border, or an RBC of another route. The rule assumes that orders
+are exactly at the border. A packet that orders the change at its own group, with a distance 0 or 32,767 (now), might be
+some metres from the border. An order might also be repeated beyond the border. Write such places into the plan. It
+assumes that packets have the levels of the plan, but announcement and border might differ on purpose. It assumes that a
+group of the same track names each border. Perhaps only radio names it, or a group on another track or beyond the table.
+The table might also have the groups for one way only. {leaving} {points} {kilometres} {missing} {one way}
 
 Usual cause. The distance was counted from another group, or not all announcements followed a border that was moved.
 
