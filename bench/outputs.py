@@ -8,7 +8,8 @@ both clones are run. The lines depend only on the seed.
 
 Each command writes standard output, standard error, its status and its files. What differs is counted by its kind: by
 the command, the file, and the first lines that differ, without their numbers. The exit status is 1 if anything differs.
-`--keep FOLDER` keeps the lines that differ with the outputs of both clones.
+The pages of the rules are not compared unless `--pages` asks for it, nor are the paths of the clones and the lines of
+ABOUT, nor seconds. `--keep FOLDER` keeps the lines that differ with the outputs of both clones.
 """
 import argparse
 import collections
@@ -220,7 +221,7 @@ def _signed(head, line):
     import csv
 
     cells = next(csv.reader([line]))
-    known = {"by": "A. Tester", "reason": "It is so.", "date": "2026-01-01", "day": "2026-01-01"}
+    known = {"reason": "It is so.", "who": "A. Tester", "date": "2026-01-01"}
     return ",".join(f'"{known.get(name) or cell}"' for name, cell in zip(next(csv.reader([head])), cells))
 
 
@@ -230,8 +231,8 @@ def _signed(head, line):
 class Clone:
     """A process that has imported balisekit of a clone, and runs each command line in a process of its own."""
 
-    def __init__(self, path):
-        command = [sys.executable, __file__, "--serve", str(path)]
+    def __init__(self, path, pages):
+        command = [sys.executable, __file__, "--serve", str(path), *(["--pages"] if pages else [])]
         self.process = subprocess.Popen(command, stdin=subprocess.PIPE, stdout=subprocess.PIPE, text=True)
 
     def run(self, room, words, said):
@@ -242,7 +243,20 @@ class Clone:
         return int(self.process.stdout.readline())
 
 
-def serve(clone):
+def without_pages():
+    """Leaves out what the pages of the rules say. Whether correct data can get a remark stays, because rules go by it."""
+    from balisekit.present import explanations
+    from balisekit.rules.accepted import RULES
+
+    for rule in RULES.values():
+        rule.__dict__["parts"] = {head: "Never" if text.startswith("Never") else "x" for head, text in rule.parts.items()}
+    known = {number: {key: "x" for key in page} for number, page in explanations.explanations().items()}
+    for module in list(sys.modules.values()):
+        if getattr(module, "explanations", None) is explanations.explanations:
+            module.explanations = lambda: known
+
+
+def serve(clone, pages):
     """Runs the command lines that standard input names."""
     sys.path[:] = [str(Path(clone) / "companion" / "src"), *sys.path[3:]]
     from importlib import import_module
@@ -250,6 +264,8 @@ def serve(clone):
     main = import_module("balisekit.cli.main").main
     for name in ("check", "show", "draw", "report", "links", "diff", "plan", "table"):
         import_module(f"balisekit.cli.{name}")
+    if not pages:
+        without_pages()
     for line in sys.stdin:
         room, words, said = json.loads(line)
         child = os.fork()
@@ -267,12 +283,32 @@ def serve(clone):
 
 
 @functools.lru_cache(None)
-def clones(paths):
+def clones(paths, pages):
     """The clones at these paths, for this process."""
-    return [Clone(path) for path in paths]
+    return [Clone(path, pages) for path in paths]
 
 
-def outputs_of(clone, room, name, words, kept):
+@functools.lru_cache(None)
+def names_of(path):
+    """What outputs name of a clone: its path, and the lines of ABOUT."""
+    about = (path / "dist" / "x86_64-linux" / "ABOUT").read_text("utf-8").splitlines()
+    names = {line.split(" ", 1)[1]: line.split(" ", 1)[0] for line in about if not line.startswith("program")}
+    named = {os.environ["BALISECHECK"]: "PROGRAM", str(path): "CLONE"}
+    return {**named, **{value: name for value, name in names.items() if len(value) > 12}}
+
+
+def unnamed(path, folder):
+    """Replaces what the outputs in a folder name of a clone, and the seconds of JUnit."""
+    names = names_of(path)
+    for file in folder.rglob("*"):
+        if file.is_file():
+            text = file.read_bytes().decode("utf-8", "surrogateescape")
+            text = re.sub("|".join(map(re.escape, names)), lambda it: names[it[0]], text)
+            text = re.sub(r' time="[0-9.]+"', ' time=""', text)
+            file.write_bytes(text.encode("utf-8", "surrogateescape"))
+
+
+def outputs_of(clone, room, words, kept):
     """Runs a command, and moves its outputs to `kept`."""
     out = room / "out"
     shutil.rmtree(out, ignore_errors=True)
@@ -282,7 +318,7 @@ def outputs_of(clone, room, name, words, kept):
     out.rename(kept)
 
 
-def compare_line(paths, seed, keep):
+def compare_line(paths, seed, keep, pages):
     """The kinds of differences of a line, with the number of each, and how often each command had each status."""
     from balisekit.engine.program import Program
 
@@ -291,14 +327,15 @@ def compare_line(paths, seed, keep):
         room = Path(folder)
         write_line(Program.find(), room, seed)
         for words in PREPARED:
-            outputs_of(clones(paths)[0], room, "", words, room / "unused")
+            outputs_of(clones(paths, pages)[0], room, words, room / "unused")
             shutil.rmtree(room / "unused")
         spoil_prepared(room, seed)
         messages = f"--messages {MESSAGES}" if (room / MESSAGES).exists() else ""
         for name, words in COMMANDS.items():
             sides = [room / f"{which} {name}" for which in ("old", "new")]
-            for clone, kept in zip(clones(paths), sides):
-                outputs_of(clone, room, name, words.format(messages=messages).split(), kept)
+            for path, clone, kept in zip(paths, clones(paths, pages), sides):
+                outputs_of(clone, room, words.format(messages=messages).split(), kept)
+                unnamed(path, kept)
             statuses[f"{name}: {(sides[0] / 'status').read_text().strip()}"] += 1
             found.update({f"{name}, {kind}" for kind in differences(*sides)})
         if found and keep:
@@ -341,18 +378,19 @@ def main():
     parser.add_argument("--seed", type=int, default=0, help="of the first line")
     parser.add_argument("--jobs", type=int, default=2)
     parser.add_argument("--keep", metavar="FOLDER")
+    parser.add_argument("--pages", action="store_true", help="compare the pages of the rules too")
     parser.add_argument("--serve", action="store_true", help=argparse.SUPPRESS)
     words = parser.parse_args()
     os.environ["SOURCE_DATE_EPOCH"] = "1700000000"
     if words.serve:
-        serve(*words.clones)
+        serve(*words.clones, words.pages)
         return
-    paths = tuple(str(Path(each).resolve()) for each in words.clones)
-    os.environ["BALISECHECK"] = str(Path(paths[0]) / "dist" / "x86_64-linux" / "balisecheck")
+    paths = tuple(Path(each).resolve() for each in words.clones)
+    os.environ["BALISECHECK"] = str(paths[0] / "dist" / "x86_64-linux" / "balisecheck")
     found, statuses, different = collections.Counter(), collections.Counter(), set()
     seeds = range(words.seed, words.seed + words.lines)
     with concurrent.futures.ProcessPoolExecutor(words.jobs) as pool:
-        for seed, own, met in pool.map(functools.partial(compare_line, paths, keep=words.keep), seeds):
+        for seed, own, met in pool.map(functools.partial(compare_line, paths, keep=words.keep, pages=words.pages), seeds):
             found.update(own)
             statuses.update(met)
             different |= {seed} if own else set()
