@@ -59,7 +59,7 @@ SHOWN, LONGEST = 3, 160  # differing lines that make a kind, and how much of eac
 def of_headers(random, seed):
     """Groups of one or two balises whose telegrams are only headers. Some values and kilometres are wrong."""
     rows, km = [("group", "km", "track", "nominal", "telegram")], 10_000
-    for number in range(1, random.randint(10, 60)):
+    for number in range(1, random.randint(10, 40)):
         balises, km = random.choice((1, 1, 2)), km + random.randrange(0, 2000)
         for place in range(balises):
             pair = 0 if balises == 1 else place + 1
@@ -99,8 +99,8 @@ def of_aspects(random, seed):
     """A sound line of signals with red, yellow and green, some with infill, borders and signals for both directions."""
     from meaning_line import Line
 
-    both, infill = random.random() < 0.3, tuple(random.sample(range(1, 6), random.randint(0, 2)))
-    return _cells(Line(random.randint(6, 14), random.choice((1, -1)), both, infill=infill,
+    both, infill = random.random() < 0.3, tuple(random.sample(range(1, 5), random.randint(0, 2)))
+    return _cells(Line(random.randint(5, 9), random.choice((1, -1)), both, infill=infill,
                        border=random.choice((None, 0, 2)), seed=seed).rows)
 
 
@@ -108,18 +108,18 @@ def of_mistakes(random, seed):
     """A line in both directions with one mistake that a rule covers. The kinds of mistakes take turns."""
     import meaning_changes
 
-    return _cells(meaning_changes.changed(seed // len(SHAPES), 30).rows)
+    return _cells(meaning_changes.changed(seed // len(SHAPES), 12).rows)
 
 
 def of_spoiled(random, seed):
     """A line in both directions with several fields, cells and rows spoiled."""
     from meaning_random import random_line
 
-    rows = spoiled(random, _cells(random_line(seed, 40).rows), random.randint(1, 12))
+    rows = spoiled(random, _cells(random_line(seed, 14).rows), random.randint(1, 12))
     for _ in range(random.randint(0, 3)):
-        at, column = random.randrange(1, len(rows)), random.choice((0, 1, 2, 2, 3, 4, 5))
-        other = random.choice((rows[random.randrange(1, len(rows))][column], "", "x"))
-        rows[at] = (*rows[at][:column], other if column != 2 else random.choice(("", "1.000")), *rows[at][column + 1:])
+        at, column = random.randrange(1, len(rows)), random.choice((1, 2, 2, 3))
+        other = random.choice((rows[random.randrange(1, len(rows))][column], ""))
+        rows[at] = (*rows[at][:column], other, *rows[at][column + 1:])
     return rows
 
 
