@@ -1,5 +1,7 @@
 #!/usr/bin/env python3
-"""Compares all that the commands of two clones write about random lines: bench/outputs.py OLD NEW [--lines N] [--seed S]
+"""Compares all that the commands of two clones write about random lines.
+
+    bench/outputs.py OLD NEW [--lines N] [--seed S]
 
 The lines are of five shapes that take turns: headers only, small groups with any finding, signals with aspects, lines
 in both directions with one mistake that a rule covers, and such lines with several fields, cells and rows spoiled. A
@@ -149,7 +151,8 @@ def _numbers(form):
     """Each number within packets, with the object that has it."""
     if isinstance(form, list):
         return [one for each in form for one in _numbers(each)]
-    own = [(form, key) for key, value in form.items() if isinstance(value, int) and key not in ("nid_packet", "l_packet")]
+    fixed = "nid_packet", "l_packet"
+    own = [(form, key) for key, value in form.items() if isinstance(value, int) and key not in fixed]
     return own + [one for value in form.values() if isinstance(value, (list, dict)) for one in _numbers(value)]
 
 
@@ -168,7 +171,7 @@ def write_line(program, room, seed):
 
 
 def _write_table(program, path, rows, random):
-    """The table as CSV. For a telegram that cannot be encoded it has one of another group, and some have a digit less."""
+    """The table as CSV. A telegram that cannot be encoded is replaced by another one, and some have a digit less."""
     from balisekit.engine.program import Text
 
     answers = [*program.encode([row[-1] for row in rows[1:]])]
@@ -244,12 +247,13 @@ class Clone:
 
 
 def without_pages():
-    """Leaves out what the pages of the rules say. Whether correct data can get a remark stays, because rules go by it."""
+    """Leaves out what the pages of the rules say, but not whether correct data can get a remark: rules go by it."""
     from balisekit.present import explanations
     from balisekit.rules.accepted import RULES
 
     for rule in RULES.values():
-        rule.__dict__["parts"] = {head: "Never" if text.startswith("Never") else "x" for head, text in rule.parts.items()}
+        parts = rule.parts.items()
+        rule.__dict__["parts"] = {head: "Never" if text.startswith("Never") else "x" for head, text in parts}
     known = {number: {key: "x" for key in page} for number, page in explanations.explanations().items()}
     for module in list(sys.modules.values()):
         if getattr(module, "explanations", None) is explanations.explanations:
@@ -355,9 +359,13 @@ def differences(old, new):
 
 
 def kinds(one, other):
-    """The first lines of each part that differs, without numbers and quoted names."""
-    texts = [re.sub(r"(?<=>)(?=<)|(?<=[,{]) ?(?=\")", "\n", each.read_text("utf-8")).split("\n") for each in (one, other)]
+    """The first lines of each part that differs, without numbers."""
+    cut = re.compile(r"(?<=>)(?=<)|(?<=[,{]) ?(?=\")")
+    texts = [cut.sub("\n", each.read_text("utf-8")).split("\n") for each in (one, other)]
     texts = [[re.sub(r"[0-9a-f]{16,}|\d+(\.\d+)?", "N", line)[:LONGEST] for line in text] for text in texts]
+    for _ in range(2):  # (what both begin and end with is left out: difflib takes long)
+        same = next((at for at, lines in enumerate(zip(*texts)) if lines[0] != lines[1]), min(map(len, texts)))
+        texts = [text[same:][::-1] for text in texts]
     parts = [*difflib.unified_diff(*texts, n=0, lineterm="")][2:]
     chunk = []
     for line in [*parts, "@@"]:
@@ -390,7 +398,8 @@ def main():
     found, statuses, different = collections.Counter(), collections.Counter(), set()
     seeds = range(words.seed, words.seed + words.lines)
     with concurrent.futures.ProcessPoolExecutor(words.jobs) as pool:
-        for seed, own, met in pool.map(functools.partial(compare_line, paths, keep=words.keep, pages=words.pages), seeds):
+        compare = functools.partial(compare_line, paths, keep=words.keep, pages=words.pages)
+        for seed, own, met in pool.map(compare, seeds):
             found.update(own)
             statuses.update(met)
             different |= {seed} if own else set()
