@@ -65,7 +65,9 @@ def _first(rows: Sequence[Row], group: str) -> Row:
 def _with_sections(form: Form, length: int) -> None:
     """An authority gets a section up to the first switch, a timer of the last section, and a danger point."""
     authority = next(each for each in form["packets"] if each["nid_packet"] == 12)
-    authority["sections"] = [{"l_section": SWITCH, "section_timer": {"t_sectiontimer": 300, "d_sectiontimerstoploc": 0}}]
+    authority["sections"] = [
+        {"l_section": SWITCH, "section_timer": {"t_sectiontimer": 300, "d_sectiontimerstoploc": 0}}
+    ]
     authority["l_endsection"] -= SWITCH
     authority["end_timer"] = {"t_endtimer": 60, "d_endtimerstartloc": 200}
     authority["danger_point"] = {"d_dp": 50, "v_releasedp": 4}
@@ -85,13 +87,7 @@ def _linking(site: Site, *others: Site) -> Form:
     """The links of a route."""
     places = [site.place, *(other.place for other in others)]
     links = [
-        {
-            "d_link": place - before,
-            "nid_bg": other.number,
-            "q_linkorientation": 1,
-            "q_linkreaction": 1,
-            "q_locacc": 5,
-        }
+        {"d_link": place - before, "nid_bg": other.number, "q_linkorientation": 1, "q_linkreaction": 1, "q_locacc": 5}
         for before, place, other in zip(places, places[1:], others)
     ]
     return packet(site, 5, links=links)
@@ -108,9 +104,7 @@ def _links_of_each_aspect(rows: Sequence[Row], site: Site) -> Form:
     return linking
 
 
-def _of_route(
-    line: Line, site: Site, aspect: str, counter: int, packets: Sequence[Form], length: int
-) -> Iterator[Row]:
+def _of_route(line: Line, site: Site, aspect: str, counter: int, packets: Sequence[Form], length: int) -> Iterator[Row]:
     """The aspect of a signal for a route over a diverging switch."""
     reach = length + OVERLAP
     speeds = _speeds(site, (0, 16), (SWITCH, SLOW // 5), (200, 12), (reach - SWITCH - 200, 127))

@@ -2,6 +2,7 @@
 from __future__ import annotations
 
 import csv
+import html
 import json
 import re
 from collections import Counter
@@ -187,11 +188,12 @@ def test_page_of_scores() -> None:
 
 
 @pytest.mark.parametrize("name", certificate_scores.MADE)
-def test_made_lines(run: Run, program: Program, tmp_path: Path, name: str) -> None:
-    """The lines that the scores are made of are sound: a change is not found because of what was wrong before."""
+def test_made_lines(program: Program, tmp_path: Path, name: str) -> None:
+    """The made lines are correct, so no change of them is found because of what was wrong before."""
     path = tmp_path / "line.csv"
     path.write_text(table(program, certificate_scores.MADE[name]()), "utf-8")
-    assert run("check", path)[0] == 0
+    outcome = baseline_of(program, path).outcome
+    assert outcome.whole and all(entry.expected for entry in outcome.entries)
 
 
 def test_less_is_found() -> None:
@@ -226,29 +228,44 @@ def test_one_change_of_several_kinds(program: Program) -> None:
     assert [score.tried for score in (certified.whole, *certified.by_kind().values())] == [1, 1, 1]
 
 
-WITHOUT_A_DIGIT = "of 34 telegrams refused"
-
-
-@pytest.mark.parametrize(
-    "change, reason",
-    [
-        (lambda text: text[:-3] + "\n", "1 of 6 telegrams refused, 1 of 4 groups left out"),
-        (lambda text: text + "x,,,,,,,\n", "z"),
-    ][:1],
-)
-def test_incomplete(run: Run, tmp_path: Path, change: Any, reason: str) -> None:
-    """If the line itself cannot be judged completely, the status is 2, and all outputs say so as `check` does."""
+@pytest.mark.parametrize("cut", [False, True])
+def test_incomplete(run: Run, tmp_path: Path, cut: bool) -> None:
+    """If the line itself cannot be judged completely, the status is 2, and all outputs give the reasons of `check`."""
     pytest.importorskip("jinja2")
+    rows = csv.DictReader((TOP / "examples" / "links" / "line.csv").read_text("utf-8").splitlines())
+    lines = [f"{row['group']},{row['km'].split('.')[0]},{row['telegram']}" for row in rows if row["group"] in "AB"]
     path, answer, page = (tmp_path / name for name in ("t.csv", "a.json", "a.html"))
-    path.write_text(change((TOP / "examples" / "links" / "line.csv").read_text("utf-8")), "utf-8")
-    checked = run("check", path)
-    status, lines, _ = run("certify", path, "--minutes", "0.01", "--json", answer, "--html", page)
-    assert (status, checked[0]) == (2, 2)
-    begin = f"INCOMPLETE: {reason}"
-    assert checked[1][-1].startswith(begin) and lines[-1].startswith(f"{begin}; of ")
+    path.write_text("\n".join(["group,km,telegram", *lines, *([f"C,20,{'0' * 53}"] if cut else [])]), "utf-8")
+    _, checked, _ = run("check", path)
+    status, out, _ = run("certify", path, "--minutes", "0.01", "--json", answer, "--html", page)
     made = json.loads(answer.read_text("utf-8"))
-    assert made["incomplete"] == reason.split(", ") and made["last_line"] == lines[-1]
-    assert lines[-1] in page.read_text("utf-8")
+    begin = f"INCOMPLETE: {', '.join(made['incomplete'])}; of "
+    assert status == 2 and out[-1].startswith(begin) and made["last_line"] == out[-1]
+    assert all(reason in checked[-1] for reason in made["incomplete"])
+    assert any(reason.startswith("L3 compared none of ") for reason in made["incomplete"])
+    assert ("1 of 5 telegrams refused" in made["incomplete"]) is ("1 of 3 groups left out" in made["incomplete"]) is cut
+    assert html.escape(begin) in page.read_text("utf-8")
+    _, _, errors = run("certify", path, "--minutes", "0.01", "--json", "-")
+    assert errors[-1].startswith(begin)
+
+
+def test_notes(run: Run, tmp_path: Path) -> None:
+    """What `check` says of how the inputs were read is said here, too: notes, no kilometres and entries at fault."""
+    rows = list(csv.DictReader((TOP / "examples" / "links" / "line.csv").read_text("utf-8").splitlines()))
+    path, settings, entries, answer = (tmp_path / name for name in ("t.csv", "balisekit.toml", "e.csv", "a.json"))
+    path.write_text("\n".join(["group,telegram", *(f"{row['group']},{row['telegram']}" for row in rows)]), "utf-8")
+    settings.write_text('[columns]\nname = "Balise"\n', "utf-8")
+    columns = "rule,nid_c,nid_bg,message,aspect,balise,packet,direction,reason,who,date,sha256"
+    entries.write_text(f"{columns}\nF1,1,2,,,0,,,none,N. N.,2026-01-01,{'0' * 64}\n", "utf-8")
+    words = [path, "--accepted", entries]
+    _, checked, _ = run("check", *words)
+    status, out, _ = run("certify", *words, "--minutes", "0.01", "--json", answer)
+    begins = ("note: ", "no kilometres: ", "account: ", f"{entries}: row 2: ")
+    said = [line for line in checked if line.startswith(begins)]
+    assert status == 0 and {begin for begin in begins for line in said if line.startswith(begin)} == {*begins}
+    assert set(said) <= set(out)
+    notes = json.loads(answer.read_text("utf-8"))["notes"]
+    assert "no kilometres: rules over the line are not applied" in notes and any("row 2: " in note for note in notes)
 
 
 def test_cover_of_a_report(run: Run, tmp_path: Path) -> None:
