@@ -15,6 +15,7 @@ import mistakes_page
 import pytest
 from conftest import Run
 from meaning_line import table
+from meaning_mistakes_of_groups import raw
 
 from balisekit.certificate.certificate import Certificate
 from balisekit.certificate.judging import Answer, Baseline, Judge, rows_of_refusal
@@ -351,6 +352,12 @@ GRADIENTS, SPEEDS = ("packets", 1, "elements"), ("packets", 2, "elements")
         (5, (*GRADIENTS, 2, "q_gdir"), 1, False),
         (5, (*SPEEDS, 2, "q_front"), 1, True),
         (5, (*SPEEDS, 1, "q_front"), 1, False),
+        (5, ("packets", 0, "l_endsection"), 2999, True),
+        (5, ("packets", 0, "l_endsection"), 2998, False),
+        (5, ("packets", 0, "v_main"), 25, False),
+        (3, ("packets", 0, "q_scale"), 2, True),
+        (5, ("packets", 0, "q_scale"), 2, False),
+        (2, ("packets", 0, "links", 0, "q_locacc"), 6, False),
     ],
 )
 def test_same_meaning(program: Program, row: int, path: Tuple[object, ...], number: int, legal: bool) -> None:
@@ -360,6 +367,59 @@ def test_same_meaning(program: Program, row: int, path: Tuple[object, ...], numb
     change = changed(original, value, number)
     assert bool(same_meaning(original, change)) is legal
     assert not same_meaning(original, change._replace(cells={row: {"name": "x"}}))
+
+
+@pytest.mark.parametrize(
+    "before, after, legal",
+    [
+        ({"d_leveltr": 0}, {"q_scale": 2}, True),
+        ({"d_leveltr": 32_767}, {"q_scale": 2}, True),
+        ({"d_leveltr": 100}, {"q_scale": 2}, False),
+        ({"d_leveltr": 100}, {"d_leveltr": 101}, True),
+        ({"d_leveltr": 100}, {"d_leveltr": 101, "transitions": [{"m_leveltr": 3, "l_ackleveltr": 1}]}, False),
+        ({"d_leveltr": 100, "q_scale": 2}, {"d_leveltr": 101}, False),
+        ({"d_leveltr": 100, "q_scale": 0}, {"d_leveltr": 110}, True),
+        ({"d_leveltr": 100, "q_scale": 0}, {"d_leveltr": 111}, False),
+        ({"d_leveltr": 32_766}, {"d_leveltr": 32_767}, False),
+        ({"d_leveltr": 32_767}, {"d_leveltr": 32_766}, False),
+    ],
+)
+def test_distances(before: Dict[str, Any], after: Dict[str, Any], legal: bool) -> None:
+    """A distance may move by one metre, and without a distance Q_SCALE means nothing. 32,767 is now, and no distance."""
+    order = {"nid_packet": 41, "q_dir": 1, "q_scale": 1, "transitions": [{"m_leveltr": 3, "l_ackleveltr": 0}], **before}
+    form: Any = {"m_mcount": 255, "packets": [order]}
+    line: Any = SimpleNamespace(forms={2: form}, group_of={})
+    changed_form: Any = {**form, "packets": [{**order, **after}]}
+    assert bool(same_meaning(line, Change("", frozenset({2}), forms={2: changed_form}))) is legal
+
+
+@pytest.mark.parametrize(
+    "body, legal", [(raw(65, f"01{7:08b}{0:030b}0{12:07b}"), True), (raw(72, "01" + "0" * 80), False)]
+)
+def test_scale_of_a_packet_that_is_kept_as_bits(body: Any, legal: bool) -> None:
+    """Q_SCALE of such a packet means nothing only if its layout is certain, and all of its bits are read."""
+    changed_body = {**body, "body": f"{int(body['body'][0], 16) ^ 0xC:x}{body['body'][1:]}"}
+    before: Any = {"m_mcount": 255, "packets": [body]}
+    after: Any = {"m_mcount": 255, "packets": [changed_body]}
+    line: Any = SimpleNamespace(forms={2: before}, group_of={})
+    assert bool(same_meaning(line, Change("", frozenset({2}), forms={2: after}))) is legal
+
+
+@pytest.mark.parametrize("letters", [tuple(FAMILIES), ("L",)])
+def test_change_that_is_reported(program: Program, letters: Tuple[str, ...]) -> None:
+    """A distance that moves by one metre counts if data no longer cover the authority, whoever asks for the finding."""
+    outcome = apply(checking.check(program, reader.read(str(LINE))), letters, Options())
+    baseline, original = Baseline(outcome, Judge(letters, Options())), Original(outcome.checked)
+    numbers = {("packets", 0, "l_endsection"): (2999, 3001), (*GRADIENTS, 0, "d_gradient"): (1,)}
+    answers = []
+    for path, some in numbers.items():
+        value = next(each for own in original.values.values() for each in own if (each.row, each.path) == (5, path))
+        for change in (changed(original, value, number) for number in some):
+            trial = Trial(catalogue()[0], change._replace(legal=same_meaning(original, change)), {})
+            (text,) = program.encode([change.forms[5]])
+            answers.append(baseline.judgement(trial.change, {5: getattr(text, "line", "")}).answer)
+    found = Answer.FOUND if "F" in letters else Answer.NOT_FOUND
+    assert answers == [Answer.LEGAL, found, Answer.FOUND]
 
 
 def test_counter_of_one_of_two_balises(program: Program) -> None:
@@ -403,6 +463,13 @@ def test_rows_in_the_sentence_of_a_refusal(program: Program, name: str) -> None:
     baseline, made = tried(program, LINE, 2)
     answers = [judged(baseline, each) for each in made if each.mistake.name == name]
     assert [(each.answer, each.rules) for each in answers] == [(Answer.FOUND, ("refused",))] * 2
+
+
+def test_cell_that_is_refused(program: Program) -> None:
+    """A changed cell that the reader of tables refuses is found, also if no rule compares its row."""
+    baseline, made = tried(program, TOP / "examples" / "links" / "line.csv", 3)
+    answers = [judged(baseline, each) for each in made if each.mistake.name == "kilometre in metres"]
+    assert [(each.answer, each.rules) for each in answers] == [(Answer.FOUND, ("refused",))] * 3
 
 
 @pytest.mark.parametrize(
