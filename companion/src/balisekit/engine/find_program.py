@@ -1,4 +1,4 @@
-"""Where the program and its library are, and who knows their checksums: ABOUT and RELEASES of a clone, release, wheel."""
+"""Where the program and its library are, and who knows their checksums: ABOUT and RELEASES."""
 from __future__ import annotations
 
 import glob
@@ -66,7 +66,6 @@ class StoredLibrary(NamedTuple):
     """The lines of its ABOUT."""
 
 
-@lru_cache(maxsize=None)
 def stored_library() -> Optional[StoredLibrary]:
     """The library that the first ABOUT names, if its file is undamaged. None if there is none."""
     for folder, papers in abouts():
