@@ -76,30 +76,28 @@ class LegalLine(Telegrams):
 
     # ---- the kinds
 
-    def _chain(
-        self, way: int, signals: Sequence[Site], others: Sequence[Site], beyond: Optional[Sequence[int]] = None
-    ) -> None:
+    def _chain(self, way: int, signals: Sequence[Site], others: Sequence[Site], beyond: Sequence[Site] = ()) -> None:
         """The routes of signals one after the other, in the order of passing: yellow to the next, green to two.
 
-        Beyond the last one they lead to the places `beyond`, or to signals that the table lacks.
+        Beyond the last one they lead to the sites `beyond`, or to signals that the table lacks.
         """
         _, yellow, green, _, sight = self.habits.words
         last = signals[-1].place + way * 20_000
         for index, signal in enumerate(signals):
             ahead = [*signals[index + 1 :]]
-            places = [*(each.place for each in ahead), *(beyond or (last, last + way * 15_000))]
+            to = [*ahead, *beyond]
+            places = [*(each.place for each in to), last, last + way * 15_000]
             ends = [abs(place - signal.place) for place in places]
             passed = sorted(
                 ((each, (each.place - signal.place) * way) for each in (*ahead, *others)), key=lambda each: each[1]
             )
             passed = [each for each in passed if 0 < each[1]]
             for aspect, count in ((yellow, 1), (green, 2)):
-                to = ahead[count - 1] if count <= len(ahead) else None
                 own = [each for each in passed if each[1] <= ends[count - 1]]
-                signal.routes.append(Route(aspect, ends[:count], to, own))
+                signal.routes.append(Route(aspect, ends[:count], to[count - 1] if count <= len(to) else None, own))
             if signal.kind == "home":
                 own = [each for each in passed if each[1] <= ends[0]]
-                signal.routes.append(Route(sight, ends[:1], ahead[0] if ahead else None, own, on_sight=True))
+                signal.routes.append(Route(sight, ends[:1], to[0] if to else None, own, on_sight=True))
 
     def _block(self, track: str, way: int, count: int, begin: int) -> List[Site]:
         """Signals for trains of one way, in the order of passing. Some are home signals of a station."""
@@ -142,7 +140,7 @@ class LegalLine(Telegrams):
                 )
                 for index in (1, 2, 3, 4)
             ]
-            self._chain(way, own, [border, *beyond], [each.place for each in beyond[1:3]])
+            self._chain(way, own, [border, *beyond], beyond[1:3])
             for site, ahead in zip((border, *beyond), (beyond, beyond[1:], beyond[2:], beyond[3:])):
                 distances = [abs(each.place - site.place) for each in ahead]
                 site.extra += self._linking(site, list(zip(ahead, distances)))

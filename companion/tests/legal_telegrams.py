@@ -265,8 +265,8 @@ class Telegrams:
         made = [self._packet(signal, 12, 1, **end)]
         if habits.stop_profiles:
             made += [self._profile(signal, Route("", [0], None, []), number) for number in (21, 27)]
-        if habits.stop_in_sr and not signal.permissive:
-            made.append(raw(137, "0", direction))
+        if habits.stop_in_sr and not (signal.permissive and habits.danger_for_sh):
+            made.append(raw(137, "1" if signal.permissive else "0", direction))
         if habits.danger_for_sh:
             made.append(raw(132, "0", direction))
         return made

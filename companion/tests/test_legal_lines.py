@@ -18,7 +18,7 @@ from balisekit.tables import reader
 pytestmark = pytest.mark.uncovered
 DESIGNS = 12
 """How many lines there are of each kind: 60 in all."""
-NAMED: Dict[str, Dict[str, int]] = {"double track": {"E8": 4}}
+NAMED: Dict[str, Dict[str, int]] = {"double track": {"E8": 2}}
 """How many lines of a kind get a remark that its page names: "at some signals these trains are allowed to pass"."""
 
 
@@ -49,6 +49,6 @@ def test_kinds_differ() -> None:
     assert numbers["level 2 border"] >= {41, 42, 45} and 65 in numbers["low density"] and 136 in numbers["double track"]
     authorities = [form for forms in sent.values() for form in forms if form["nid_packet"] == 12]
     overlaps = [form["overlap"] for form in authorities if "overlap" in form]
-    for parts, key, least in ((authorities, "v_main", 9), (overlaps, "t_ol", 4), (overlaps, "d_startol", 20)):
+    for parts, key, least in ((authorities, "v_main", 8), (overlaps, "t_ol", 4), (overlaps, "d_startol", 20)):
         assert len({part[key] for part in parts}) >= least
     assert any("danger_point" in form for form in authorities) and any("end_timer" in form for form in authorities)

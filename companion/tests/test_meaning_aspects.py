@@ -444,3 +444,23 @@ def test_e24_of_speeds(program: Program, tmp_path: Path) -> None:
     caution = [packet_with(signal, YELLOW, 12, v_main=8) for signal in (1, 2, 4, 5, 6)]
     (one,) = found(program, tmp_path / "t.csv", "E24", *caution)
     assert "V_MAIN is 140 km/h [28], and 40 km/h [8] at all 5 other signals" in one.sentence
+
+
+def test_e24_of_stop_and_go(program: Program, tmp_path: Path) -> None:
+    """One signal lets trains pass at danger, or stops them at green. Two signals may do so, and stop beside V_MAIN 0."""
+    path = tmp_path / "t.csv"
+
+    def orders(aspect: str, number: int, bits: str) -> List[Change]:
+        return [packets_added(signal, aspect, raw(number, bit)) for signal, bit in enumerate(bits, 1)]
+
+    for number, name in ((137, "Q_SRSTOP"), (132, "Q_ASPECT")):
+        (one,) = found(program, path, "E24", *orders(RED, number, "01"))
+        assert one.sentence.startswith(f'the aspect "red" is unlike "red" at other signals: {name} is go if in ')
+        assert one.sentence.endswith(" at 1 other signal with it") and "V_MAIN is 0 km/h [0]" in one.sentence
+        assert one.rows == (row_of(2, RED),)
+        assert not found(program, path, "E24", *orders(RED, number, "011"))
+    (one,) = found(program, path, "E24", *orders(GREEN, 137, "10"))
+    assert one.rows == (row_of(2, GREEN),) and "Q_SRSTOP is stop if in SR mode, although V_MAIN is " in one.sentence
+    assert not found(program, path, "E24", *orders(GREEN, 132, "10"))
+    (one,) = found(program, path, "E24", *orders(RED, 137, "00001"), without(5, RED, 12))
+    assert "lacks packet 12" in one.sentence and "Q_SRSTOP" not in one.sentence

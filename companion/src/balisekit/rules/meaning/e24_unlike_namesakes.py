@@ -12,6 +12,9 @@ that they have, or one of its values is another one. The rule rests on SUBSET-02
   D_STARTOL that is equal to L_ENDSECTION.
 - V_MAIN is compared if at all other signals it is the greatest V_STATIC of the aspect, or else the same speed. A
   V_MAIN that is too low is only reported if the signal has another proceed aspect whose V_MAIN is as usual.
+- Q_SRSTOP of packet 137 and Q_ASPECT of packet 132 are also compared if fewer signals have them. "Go" beside a V_MAIN of
+  0 is reported if only this signal has it. The same holds for "stop" in a packet 137 beside a V_MAIN above 0. At least
+  one other signal must have the other value at its aspect of the same name.
 
 Why it matters. At worst the train gets wrong information. At an aspect without packets it runs on with what the signal
 before has said, so that a red signal does not stop it. Or it gets a speed or a time of another signal.
@@ -23,7 +26,8 @@ When it is a false alarm. The rule assumes that an aspect of one name means the 
 use a name in another way, or it might be the only one whose aspect stops no ETCS train. The rule assumes that a project
 uses one T_OL, one release speed and the like. One signal might have a value of its own, such as for a steep gradient or
 a short section, although its overlap is as long as others are. It assumes that a signal with a V_MAIN of its own has it
-at all its proceed aspects.
+at all its proceed aspects. Finally, it assumes that one signal alone does not let trains in staff responsible mode or
+shunting pass at danger, which can be right at a permissive signal.
 
 Usual cause. The telegram of the aspect was made without its packets, or a value was typed wrongly.
 
@@ -49,6 +53,7 @@ from balisekit.rules.meaning.namesakes import (
     Cases,
     Odd,
     cases_of,
+    contrary_orders,
     lacking,
     odd_speeds,
     odd_values,
@@ -71,7 +76,7 @@ def find(line: Line, options: Options) -> Result:
     known = {name: own for name, own in cases.items() if signals_of(own) >= LEAST}
     rare = sum(len(own) for name, own in cases.items() if name not in known)
     parts: Dict[Tuple[str, Tuple[int, str]], List[Part]] = {}
-    for part in (*_lacking(known), *map(_of_value, (*odd_values(cases), *odd_speeds(known)))):
+    for part in (*_lacking(known), *map(_of_value, (*odd_values(cases), *contrary_orders(cases), *odd_speeds(known)))):
         parts.setdefault((part.case.aspect, part.case.signal), []).append(part)
     found = [_remark(own, known.get(own[0].case.aspect, ())) for own in parts.values()]
     looked_at = sum(len(own) for own in known.values())

@@ -11,6 +11,8 @@ from balisekit.rules.passages import GroupData
 from balisekit.rules.telegrams import SPEEDS, Packet
 
 AUTHORITY, MODES = 12, 80
+GO = 1
+"""The Q_SRSTOP and Q_ASPECT that let a train run."""
 LEAST = 5
 """The fewest signals whose aspects of one name are compared."""
 COMPARED = (
@@ -138,6 +140,11 @@ def signals_of(cases: Sequence[Case]) -> int:
     return len({case.signal for case in cases})
 
 
+def _at(count: int) -> str:
+    """Where others agree: `at all 5 other signals`."""
+    return f"at all {count} other signals" if count > 1 else "at 1 other signal"
+
+
 def lacking(cases: Sequence[Case], number: int) -> Sequence[Case]:
     """The cases without a packet that at least four of five signals have."""
     without = [case for case in cases if case.first(number) is None]
@@ -161,8 +168,33 @@ def odd_values(cases: Cases) -> Iterator[Odd]:
             others = {each.compared for each in everywhere if each.case.signal != odd[0].case.signal}
             if rest >= LEAST - 1 and not others.intersection(each.compared for each in odd):
                 for each in odd:
-                    words = f"{each.name} is {each.words}, and {usual.words} at all {rest} other signals with it"
+                    words = f"{each.name} is {each.words}, and {usual.words} {_at(rest)} with it"
                     yield Odd(each.case, each.packet, key, words, each.sent, usual.sent)
+
+
+def contrary_orders(cases: Cases) -> Iterator[Odd]:
+    """The packets 137 and 132 of one signal that contradict V_MAIN, if the same aspect elsewhere has the other value."""
+    for own in cases.values():
+        for number, key in ((137, "q_srstop"), (132, "q_aspect")):
+            packets = [(case, case.first(number)) for case in own]
+            values = [
+                Value(case, packet, packet.form, key) for case, packet in packets if packet and key in packet.form
+            ]
+            wrong = [each for each in values if _contradicts(each)]
+            signals = {each.case.signal for each in wrong}
+            others = [each for each in values if each.case.signal not in signals]
+            if len(signals) == 1 and others:
+                for each in wrong:
+                    words = f"{each.name} is {each.words}, although V_MAIN is {speed(each.case.speed)}"
+                    rest = f"{others[0].words} {_at(signals_of([other.case for other in others]))} with it"
+                    yield Odd(each.case, each.packet, key, f"{words}, and {rest}", each.sent, others[0].sent)
+
+
+def _contradicts(value: Value) -> bool:
+    """Whether it says go beside V_MAIN 0, or packet 137 says stop beside a V_MAIN above 0."""
+    if value.case.first(AUTHORITY) is None:
+        return False
+    return value.sent == GO if not value.case.speed else value.sent != GO and value.key == "q_srstop"
 
 
 def _values(case: Case, part: str, key: str) -> Iterator[Value]:
@@ -207,7 +239,7 @@ def odd_speeds(cases: Cases) -> Sequence[Odd]:
 def _odd_speeds(cases: Sequence[Case]) -> Iterator[Odd]:
     """The V_MAIN of one signal that are not the greatest V_STATIC, or the speed, that they are at all others."""
     rest = signals_of(cases) - 1
-    others = f"at all {rest} other signals"
+    others = _at(rest)
     own = [case for case in cases if case.speed != case.of_profile]
     if rest >= LEAST - 1 and signals_of(own) == 1:
         usual = {case.speed for case in cases if case not in own}
