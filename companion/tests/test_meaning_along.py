@@ -871,7 +871,7 @@ def test_e19_passes_over_an_element_without_length(found: Found) -> None:
 
 
 def test_e20(found: Found) -> None:
-    """Only the part about one packet is on by default."""
+    """A value that other links of the table have too is only compared if the rule is asked for."""
     for group, words in ((5, "as its first link does"), (4, "which sends it")):
         (one,) = found("E20", SHORT, set_in_item("Signal 4", FIXED, 5, "links", 1, nid_bg=group), Options())
         assert words in one.sentence and one.values["nid_bg"] == group
@@ -880,7 +880,12 @@ def test_e20(found: Found) -> None:
         (one,) = found("E20", SHORT, changed)
         usual = {"q_locacc": 5, "q_linkreaction": 1}[key]
         assert one.values == {key: Decimal(value), f"other_{key}": Decimal(usual)}
-        assert not found("E20", SHORT, changed, Options())
+        assert [each.sentence for each in found("E20", SHORT, changed, Options())] == [one.sentence]
+        other = set_in_item("Signal 1", FIXED, 5, "links", 1, **{key: value})
+        assert not found("E20", SHORT, all_of(changed, other), Options())
+        assert len(found("E20", SHORT, all_of(changed, other))) == 2
+        few = Line(signals=5)
+        assert not found("E20", few, changed, Options()) and found("E20", few, changed)
 
 
 def test_e21(found: Found) -> None:
@@ -1059,13 +1064,14 @@ def test_e25(found: Found) -> None:
         del change(rows, "Signal 3", GREEN, 12)["overlap"]
 
     danger = {"danger_point": {"d_dp": 50, "v_releasedp": 126}}
-    for changes, words in (
+    cases: List[Tuple[List[Change], str]] = [
         ([overlap("Signal 3", GREEN, d_ol=150, v_releaseol=6)], "D_OL is 150 m, and 200 m by Signal 4 (km 14.500)"),
         ([overlap("Signal 3", GREEN, v_releaseol=6)], "V_RELEASEOL is 30 km/h, and calculated on board by Signal 4"),
         ([without_overlap], "D_OL is absent, and 200 m by Signal 4"),
         ([set_in("Signal 3", GREEN, 12, end_speed=28)], "V_LOA is 140 km/h, and 0 km/h, stop by Signal 4"),
         ([set_in("Signal 3", GREEN, 12, **danger)], "D_DP is 50 m, and absent by Signal 4"),
-    ):
+    ]
+    for changes, words in cases:
         (one,) = found("E25", SHORT, all_of(*changes))
         assert words in one.sentence and one.sentence.endswith("whose authority ends at the same place")
         assert one.location.row and one.location.row.aspect == GREEN and one.others == [16]

@@ -447,7 +447,7 @@ def test_e24_of_speeds(program: Program, tmp_path: Path) -> None:
 
 
 def test_e24_of_stop_and_go(program: Program, tmp_path: Path) -> None:
-    """One signal lets trains pass at danger, or stops them at green. Two signals may do so, and stop beside V_MAIN 0."""
+    """One signal lets trains pass at danger, or stops them at green. Two signals may do so."""
     path = tmp_path / "t.csv"
 
     def orders(aspect: str, number: int, bits: str) -> List[Change]:

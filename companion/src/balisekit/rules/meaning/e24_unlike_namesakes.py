@@ -12,9 +12,9 @@ that they have, or one of its values is another one. The rule rests on SUBSET-02
   D_STARTOL that is equal to L_ENDSECTION.
 - V_MAIN is compared if at all other signals it is the greatest V_STATIC of the aspect, or else the same speed. A
   V_MAIN that is too low is only reported if the signal has another proceed aspect whose V_MAIN is as usual.
-- Q_SRSTOP of packet 137 and Q_ASPECT of packet 132 are also compared if fewer signals have them. "Go" beside a V_MAIN of
-  0 is reported if only this signal has it. The same holds for "stop" in a packet 137 beside a V_MAIN above 0. At least
-  one other signal must have the other value at its aspect of the same name.
+- Q_SRSTOP of packet 137 and Q_ASPECT of packet 132 are also compared if fewer signals have them. "Go" beside a V_MAIN
+  of 0 is reported if only this signal has it. The same holds for "stop" in a packet 137 beside a V_MAIN above 0. At
+  least one other signal must have the other value at its aspect of the same name.
 
 Why it matters. At worst the train gets wrong information. At an aspect without packets it runs on with what the signal
 before has said, so that a red signal does not stop it. Or it gets a speed or a time of another signal.

@@ -173,7 +173,7 @@ def odd_values(cases: Cases) -> Iterator[Odd]:
 
 
 def contrary_orders(cases: Cases) -> Iterator[Odd]:
-    """The packets 137 and 132 of one signal that contradict V_MAIN, if the same aspect elsewhere has the other value."""
+    """The packets 137 and 132 of one signal that contradict V_MAIN, if the aspect has the other value elsewhere."""
     for own in cases.values():
         for number, key in ((137, "q_srstop"), (132, "q_aspect")):
             packets = [(case, case.first(number)) for case in own]
