@@ -1073,7 +1073,7 @@ def test_e25(found: Found) -> None:
     ]
     for changes, words in cases:
         (one,) = found("E25", SHORT, all_of(*changes))
-        assert words in one.sentence and one.sentence.endswith("whose authority ends at the same place")
+        assert words in one.sentence and one.sentence.endswith(", whose authority ends there too")
         assert one.location.row and one.location.row.aspect == GREEN and one.others == [16]
     assert not found("E25", SHORT, overlap("Signal 3", GREEN, d_ol=201))
     elsewhere = [set_in("Signal 3", GREEN, 12, **danger), set_in("Signal 4", YELLOW, 12, **danger)]
