@@ -4,22 +4,35 @@ from __future__ import annotations
 from dataclasses import replace
 from typing import Mapping, Optional
 
+from balisekit.errors import TableError
 from balisekit.mistakes.mistake import Change
 from balisekit.tables.grouping import groups_of
 from balisekit.tables.model import Aspect, Group, Messages, Row, Table
+from balisekit.tables.reader import MEANINGS
 
 
 def changed_table(table: Table, change: Change, texts: Mapping[int, str], by_position: bool = False) -> Table:
     """The table after a change. `texts` has the new digits of telegrams, by row.
 
-    TableError or TableErrors is raised if the reader of tables refuses the changed rows.
+    TableError or TableErrors is raised if the reader of tables refuses the changed cells or rows.
     """
+    _look_at_cells(change)
     if not (change.cells or any(row > 0 for row in change.lost)):
         rows = tuple(_changed(row, change, texts) for row in table.rows)
         return replace(table, rows=rows, groups=tuple(_changed_group(group, change, texts) for group in table.groups))
     kept = [_changed(row, change, texts) for row in table.rows if row.number not in change.lost]
     grouped = groups_of(kept, by_position)
     return replace(table, rows=grouped.rows, groups=grouped.groups, notes=(*table.notes, *grouped.notes))
+
+
+def _look_at_cells(change: Change) -> None:
+    """TableError is raised for a cell that the reader of tables refuses, such as a kilometre of five digits."""
+    for row, cells in change.cells.items():
+        for column, value in cells.items():
+            try:
+                MEANINGS[column]("" if value is None else str(value), "")
+            except TableError as error:
+                raise TableError(error.why, row, column) from error
 
 
 def _changed(row: Row, change: Change, texts: Mapping[int, str]) -> Row:
