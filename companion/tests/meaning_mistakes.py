@@ -142,6 +142,8 @@ MISTAKES: Dict[str, Mistake] = {
     "E21": Mistake(LEVEL_2, with_packet("Signal 1", FIXED, session(0))),
     "E22": Mistake(SHORT, all_of(RESTRICTED, with_packet("Signal 4", FIXED, restriction(7, 100, 500, 40)))),
     "E23": Mistake(SHORT, lambda rows: form_of(rows, "Signal 4", FIXED).update(m_version=32)),
+    "E24": Mistake(SHORT, lambda rows: form_of(rows, "Signal 3", RED)["packets"].clear()),
+    "E25": Mistake(SHORT, lambda rows: change(rows, "Signal 3", GREEN, 12)["overlap"].update(d_ol=150)),
 }
 """A realistic mistake for each rule."""
 

@@ -1,4 +1,4 @@
-"""The rules E12 to E23: whether groups agree about one line, by its kilometres."""
+"""The rules E12 to E25, but for E24: whether groups agree about one line, by its kilometres."""
 from __future__ import annotations
 
 import copy
@@ -871,7 +871,7 @@ def test_e19_passes_over_an_element_without_length(found: Found) -> None:
 
 
 def test_e20(found: Found) -> None:
-    """Only the part about one packet is on by default."""
+    """A value that other links of the table have too is only compared if the rule is asked for."""
     for group, words in ((5, "as its first link does"), (4, "which sends it")):
         (one,) = found("E20", SHORT, set_in_item("Signal 4", FIXED, 5, "links", 1, nid_bg=group), Options())
         assert words in one.sentence and one.values["nid_bg"] == group
@@ -880,7 +880,12 @@ def test_e20(found: Found) -> None:
         (one,) = found("E20", SHORT, changed)
         usual = {"q_locacc": 5, "q_linkreaction": 1}[key]
         assert one.values == {key: Decimal(value), f"other_{key}": Decimal(usual)}
-        assert not found("E20", SHORT, changed, Options())
+        assert [each.sentence for each in found("E20", SHORT, changed, Options())] == [one.sentence]
+        other = set_in_item("Signal 1", FIXED, 5, "links", 1, **{key: value})
+        assert not found("E20", SHORT, all_of(changed, other), Options())
+        assert len(found("E20", SHORT, all_of(changed, other))) == 2
+        few = Line(signals=5)
+        assert not found("E20", few, changed, Options()) and found("E20", few, changed)
 
 
 def test_e21(found: Found) -> None:
@@ -1047,3 +1052,43 @@ def test_what_is_passed_over_is_not_counted(found: Found) -> None:
     assert counts[0] == counts[1] > counts[2] == 0
     counts = [found.result("E18", BORDER, each).looked_at for each in (unchanged, to_track_2)]
     assert counts == [3, 3], "a border more, and an announcement less"
+
+
+def test_e25(found: Found) -> None:
+    """Green of signal 3 and yellow of signal 4 end at signal 5. Danger points and overlaps are of that signal."""
+
+    def overlap(group: str, aspect: str, **values: int) -> Change:
+        return lambda rows: change(rows, group, aspect, 12)["overlap"].update(values)
+
+    def without_overlap(rows: List[Row]) -> None:
+        del change(rows, "Signal 3", GREEN, 12)["overlap"]
+
+    danger = {"danger_point": {"d_dp": 50, "v_releasedp": 126}}
+    cases: List[Tuple[List[Change], str]] = [
+        ([overlap("Signal 3", GREEN, d_ol=150, v_releaseol=6)], "D_OL is 150 m, and 200 m by Signal 4 (km 14.500)"),
+        ([overlap("Signal 3", GREEN, v_releaseol=6)], "V_RELEASEOL is 30 km/h, and calculated on board by Signal 4"),
+        ([without_overlap], "D_OL is absent, and 200 m by Signal 4"),
+        ([set_in("Signal 3", GREEN, 12, end_speed=28)], "V_LOA is 140 km/h, and 0 km/h, stop by Signal 4"),
+        ([set_in("Signal 3", GREEN, 12, **danger)], "D_DP is 50 m, and absent by Signal 4"),
+    ]
+    for changes, words in cases:
+        (one,) = found("E25", SHORT, all_of(*changes))
+        assert words in one.sentence and one.sentence.endswith("whose authority ends at the same place")
+        assert one.location.row and one.location.row.aspect == GREEN and one.others == [16]
+    assert not found("E25", SHORT, overlap("Signal 3", GREEN, d_ol=201))
+    elsewhere = [set_in("Signal 3", GREEN, 12, **danger), set_in("Signal 4", YELLOW, 12, **danger)]
+    assert not found("E25", SHORT, all_of(*elsewhere))
+    on_sight = raw(80, f"01{0:015b}00{8:07b}{3000:015b}{20:015b}0{0:05b}")
+    assert not found("E25", SHORT, all_of(without_overlap, with_packet("Signal 3", GREEN, on_sight)))
+
+
+def test_e25_of_overlaps_that_depend_on_the_aspect(found: Found) -> None:
+    """If a group has two aspects with other overlaps for one end, a third one is not compared."""
+
+    def as_far(rows: List[Row]) -> None:
+        yellow, green = (change(rows, "Signal 4", aspect, 12) for aspect in (YELLOW, GREEN))
+        green.update(l_endsection=yellow["l_endsection"])
+        green["overlap"].update(d_ol=100)
+
+    short = [as_far, lambda rows: change(rows, "Signal 3", GREEN, 12)["overlap"].update(d_ol=150)]
+    assert not found("E25", SHORT, all_of(*short))

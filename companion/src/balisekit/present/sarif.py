@@ -87,6 +87,7 @@ def document(outcome: Outcome) -> Object:
     checked = outcome.checked
     about = {
         "program": checked.program.version,
+        "programKind": checked.program.kind,
         "programSha256": checked.program.sha256,
         "programKnownBy": checked.program.known_by,
         "settings": settings_json(checked.settings, paths_from(checked)),

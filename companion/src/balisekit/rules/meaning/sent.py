@@ -29,7 +29,7 @@ class Fault(NamedTuple):
 def sent(decoded: Decoded, *numbers: int) -> Iterator[Tuple[Owner, Packet]]:
     """Each packet with these NID_PACKET once, and who sends it: those of groups, then those of messages."""
     for number in numbers:
-        yield from decoded.sent.get(number, ())
+        yield from decoded.sent(number)
 
 
 def located(owner: Owner, packet: Packet) -> Location:
