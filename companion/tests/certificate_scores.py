@@ -182,10 +182,10 @@ def _section(some: Scores) -> Iterator[str]:
     tried, found = sum(map(whole.count, COUNTED)), whole.count("F")
     yield BEGIN
     yield (
-        "We made two changes of each kind on four example lines, on a line with a station, on one with a border to "
-        "level 2 and on a random line, without a track plan. Kinds that change one variable were made once in a third "
-        f"of the variables. Of these {tried:,} changes, `check` finds {found:,}, which is {share(whole)} %. The lines "
-        f"allow {len(kinds)} of the {len(catalogue())} kinds, and {len(low)} of these are below {ENOUGH} %:\n"
+        "We made changes of the seven lines below, without a track plan: two of each kind, and one in a third of the "
+        f"variables if the kind changes one variable. Of these {tried:,} changes, `check` finds {found:,}, which is "
+        f"{share(whole)} %. The lines allow {len(kinds)} of the {len(catalogue())} kinds, and {len(low)} of these are "
+        f"below {ENOUGH} %:\n"
     )
     yield "| Kinds | Found | Why not more |\n|---|---|---|"
     for names, why in REASONS:
