@@ -29,7 +29,7 @@ QEMU = {"qemu-aarch64": "qemu-user", "/usr/aarch64-linux-gnu/lib/libc.so.6": "li
 NEEDS = {
     "aarch64": {**QEMU, "aarch64-linux-gnu-gcc": "gcc-aarch64-linux-gnu",
                 "/usr/aarch64-linux-gnu/include/stdio.h": "libc6-dev-arm64-cross"},
-    "windows": {"wine": "wine64", "x86_64-w64-mingw32-gcc": "gcc-mingw-w64-x86-64"},
+    "windows": {"wine": "wine", "/usr/lib/wine/wine64": "wine64", "x86_64-w64-mingw32-gcc": "gcc-mingw-w64-x86-64"},
     "node": {"node": "nodejs"}, "chromium": {"chromium": "chromium"}, "firefox": {"firefox-esr": "firefox-esr"}}
 # A call of the library by its name, its input, and which request for memory is refused with all later ones.
 Call = collections.namedtuple("Call", "name data refused", defaults=(0,))
