@@ -3,6 +3,7 @@ memory, in each way in which it can be run here, and what its files need. No tes
 ARM: Wine and qemu stand for them."""
 import functools
 import json
+import os
 import random
 import re
 import shutil
@@ -19,12 +20,20 @@ from runner import TOP, in_bytes, run
 from targets import ARM, MODULE, WASM, WINDOWS, Call, answers, differences, need, node, programs
 from test_library import EXPORTS
 
-pytestmark = [pytest.mark.slow, pytest.mark.xdist_group("targets")]
+pytestmark = pytest.mark.slow
 TARGETS = {"archive": "aarch64", "shared": "aarch64", "windows": "windows", "node": "node", "chromium": "chromium",
            "firefox": "firefox"}
-EACH = pytest.mark.parametrize("target", TARGETS)
-PROGRAMS = pytest.mark.parametrize("target", ["aarch64", "windows"])
-LINES, DOCUMENTS = 10_000, 1_000  # of each command, random ones
+TIMES = int(os.environ.get("BALISECHECK_TIMES", "1"))  # as many random inputs
+LINES, DOCUMENTS = 10_000 * TIMES, 1_000 * TIMES  # of each command, random ones
+
+
+def grouped(targets):
+    """The targets, in two processes of xdist: a folder of Wine takes 700 MB."""
+    return [pytest.param(it, marks=pytest.mark.xdist_group("wine" if it == "windows" else "targets")) for it in targets]
+
+
+EACH = pytest.mark.parametrize("target", grouped(TARGETS))
+PROGRAMS = pytest.mark.parametrize("target", grouped(["aarch64", "windows"]))
 
 
 def named(words):
@@ -68,7 +77,7 @@ def random_calls():
         known, lines = accepted_of(shared(), words), 0
         while lines < (DOCUMENTS if words == CHECK else LINES):
             some = [Call(named(words), job.data) for job in inputs(words, known, 100)]
-            lines += sum(1 if words == CHECK else len(it.data.split()) for it in some)
+            lines += sum(1 if words == CHECK else len(it.data.splitlines()) for it in some)
             found += some
     return tuple(found)
 
