@@ -118,7 +118,7 @@ def a_release(tmp_path_factory):
         release = f"BALISECHECK='{program()}' scripts/release.sh --try"
         assert sh(TOP, f"{release} '{made}' & {release} '{room / 'again'}'; wait").count("written: ") == 2
         sh(TOP, f"BALISEKIT_PYTHON='{tools}/help' scripts/install.sh '{room / 'clone'}'")
-        sh(room, "mkdir tree && tar -xzf made/*.tar.gz -C tree --strip-components=1")
+        sh(room, "mkdir tree && tar -xzf made/*-x86_64-linux*.tar.gz -C tree --strip-components=1")
         yield made
 
 
