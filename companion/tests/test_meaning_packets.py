@@ -27,6 +27,7 @@ from meaning_mistakes_of_groups import (
 from test_meaning import remarks, written
 
 from balisekit.engine.program import Program
+from balisekit.etcs.variables import Form
 from balisekit.rules import checking, meaning
 from balisekit.rules.line import Line as LineOfTable
 from balisekit.rules.rule import ALL, Options
@@ -345,10 +346,12 @@ def test_e6(program: Program, tmp_path: Path) -> None:
         packets_added(3, YELLOW, second),
         packets_added(4, YELLOW, {**second, "q_dir": 0}),
         packets_added(4, GREEN, reference, second),
+        packets_added(5, RED, raw(13, "0" * 40), raw(64, "")),
     ]
     assert found(program, tmp_path / "t.csv", "E6", changes) == [
         (row_of(1, RED), "a balise has it, and only radio sends it"),
         (row_of(1, RED), "a balise has it, and only radio sends it"),
+        (row_of(5, RED), "a balise has it, and only loops send it"),
         (row_of(2, RED), "it is the fourth packet of its telegram, and a train looks for it at the beginning"),
         (
             row_of(3, YELLOW),
@@ -371,6 +374,15 @@ def test_e6_names_other_packets_if_asked(program: Program, tmp_path: Path) -> No
     ]
 
 
+def test_e6_names_packet_64_if_asked(program: Program, tmp_path: Path) -> None:
+    """It is less sure that only radio sends it."""
+    added = packets_added(1, RED, raw(64, ""))
+    assert found(program, tmp_path / "t.csv", "E6", [added]) == []
+    assert found(program, tmp_path / "t.csv", "E6", [added], ASKED) == [
+        (row_of(1, RED), "a balise has it, and only radio sends it")
+    ]
+
+
 def test_e6_leaves_out_equal_packets(program: Program, tmp_path: Path) -> None:
     """A packet that is sent twice on purpose says one thing."""
 
@@ -378,6 +390,37 @@ def test_e6_leaves_out_equal_packets(program: Program, tmp_path: Path) -> None:
         packets_added(1, YELLOW, change(rows, "Signal 1", YELLOW, 21))(rows)
 
     assert found(program, tmp_path / "t.csv", "E6", [twice], ASKED) == []
+
+
+@pytest.mark.parametrize(
+    "further, words",
+    [
+        ([], []),
+        ([{"nid_packet": 21}], []),
+        ([{"nid_packet": 15}], ["the message has 2 packets 15, and a message 3 has exactly one"]),
+        ([{"nid_packet": 15}] * 2, ["the message has 3 packets 15, and a message 3 has exactly one"]),
+        (
+            [{"nid_packet": 12, "v_main": 10}],
+            ["a message 3 has it, and only balises, loops or radio infill units send it"],
+        ),
+    ],
+)
+def test_e6_of_authorities(program: Program, tmp_path: Path, further: List[Form], words: List[str]) -> None:
+    """A message 3 has exactly one packet 15 and no packet 12. Equal ones and those of the other direction count too."""
+    authority: Any = {"q_scale": 1, "end_speed": 0, "end_timeout": 1023, "sections": [], "l_endsection": 900}
+    level: Any = {"q_scale": 1, "elements": [{"d_gradient": 0, "q_gdir": 1, "g_a": 255}]}
+    others = [{"q_dir": 0, **(level if each["nid_packet"] == 21 else authority), **each} for each in further]
+    form: Any = {"nid_message": 3, "t_train": 1, "m_ack": 0, "nid_c": 352, "nid_bg": 1}
+    (made,) = program.encode([{**form, "packets": [{"nid_packet": 15, "q_dir": 1, **authority}, *others]}], radio=True)
+    path = tmp_path / "m.txt"
+    path.write_text(f"{getattr(made, 'line')}\n", "utf-8")
+    table = reader.read(str(written(program, tmp_path / "t.csv", SHORT)))
+    line = LineOfTable.of(checking.check(program, table, messages_file.read(str(path))))
+    (rule,) = [each for each in meaning.RULES if each.name == "E6"]
+    for options in (Options(), ASKED):
+        remarks_ = [each for each in rule.find(line, options).found if each.location.message]
+        assert [each.sentence for each in remarks_] == words
+        assert all(each.location.packet == len(further) for each in remarks_)
 
 
 def test_messages_are_looked_at(program: Program, tmp_path: Path) -> None:

@@ -1,13 +1,15 @@
 """E6: packets of one message.
 
-What it says. A balise has a packet that only radio sends, or a packet 0 after another packet, or a train gets two
-packets 5 at once. The rule rests on SUBSET-026, 7.4 and 8.4.4.
-- Only radio sends the packets 15, 57, 58, 63 and 140.
+What it says. A balise has a packet that only radio or loops send, or a late packet 0, or a train gets two packets 5 or
+two authorities at once. The rule rests on SUBSET-026, 7.4, 8.4.4 and 8.7. A packet 0 is late after another packet.
+- Only radio sends the packets 15, 57, 58, 63 and 140, and only loops send packet 13.
+- A message 3 has exactly one authority: one packet 15, and no packet 12. The program refuses it without a packet 15.
 - A train gets two packets 5 at once if both are in one message and hold in one direction. Packets before and after a
   packet 136 are counted separately.
 - With `--rules E6` the rule also reports two different packets of one kind in one direction. The kinds are 2, 3, 12,
-  15, 16, 21, 27, 41, 45, 46, 80, 131, 132, 136, 137, 141 and 254.
-- With `--rules E6` it also reports a packet 0, 6, 12, 16, 46, 90, 132 to 137, 145 or 254 in a message 3.
+  16, 21, 27, 41, 45, 46, 80, 131, 132, 136, 137, 141 and 254.
+- With `--rules E6` it also reports a packet 64 in a balise. In a message 3 it then reports a packet 0, 6, 13, 16, 46, 90,
+  132 to 137, 145 or 254.
 
 Why it matters. At worst the train gets wrong information. It might use either of two packets, or reject the message. It
 does not use a packet that only radio sends, and it looks for a packet 0 only at the beginning of a telegram.
@@ -26,7 +28,8 @@ How to correct it. Remove the packet that is not needed, or put packet 0 at the 
 
 How to accept it. Quote the rule of the project by which both packets are sent.
 
-How sure. 96 %, by practice and memory of the standard. What only `--rules E6` reports is 80 % sure.
+How sure. 96 %, by practice and memory of the standard. What a message 3 has is 95 % sure, and packet 13 is 90 % sure.
+What only `--rules E6` reports is 80 % sure, and packet 64 is 75 % sure.
 """
 from __future__ import annotations
 
@@ -36,33 +39,40 @@ from typing import Dict, FrozenSet, Iterator, List, Sequence, Tuple
 from balisekit.etcs.packets import packet_name
 from balisekit.rules.decoded import Owner
 from balisekit.rules.line import Line
+from balisekit.rules.location import Location
 from balisekit.rules.meaning.sent import Fault, located, remark, sent
 from balisekit.rules.passages import Passage
 from balisekit.rules.rule import Options, Remark, Result, Rule, Urgency
-from balisekit.rules.telegrams import LINKING, Packet
+from balisekit.rules.telegrams import AUTHORITIES, LINKING, Packet
 from balisekit.tables.names import ordinal, rows_words
 
 COVER_MARKER = 0
-BY_RADIO = (15, 57, 58, 63, 140)
-ONCE = frozenset({2, 3, 12, 15, 16, 21, 27, 41, 45, 46, 80, 131, 132, 136, 137, 141, 254})
+AUTHORITY, AUTHORITY_OF_RADIO = AUTHORITIES
+NOT_BY_BALISES = {**dict.fromkeys((15, 57, 58, 63, 140), "radio sends"), 13: "loops send"}
+"""Who else sends these packets."""
+IF_ASKED = {64: "radio sends"}
+"""The same of a packet that is named only if it is asked for."""
+ONCE = frozenset({2, 3, 12, 16, 21, 27, 41, 45, 46, 80, 131, 132, 136, 137, 141, 254})
 """Those that are named twice only if it is asked for."""
-NOT_BY_RADIO = (0, 6, 12, 16, 46, 90, 132, 133, 134, 135, 136, 137, 145, 254)
+MOVEMENT_AUTHORITY = 3
+NOT_BY_RADIO = (0, 6, 13, 16, 46, 90, 132, 133, 134, 135, 136, 137, 145, 254)
 
 
 def find(line: Line, options: Options) -> Result:
     """Looks at each packet, and at what is said in each direction."""
     asked = options.asks_for("E6")
-    found = [*_of_balises(line)]
+    found = [*_of_balises(line, asked), *_authorities(line)]
     found += _twice(line, ONCE | {LINKING} if asked else frozenset({LINKING}))
-    found += _of_messages(line) if asked else ()
+    found += _not_by_radio(line, *NOT_BY_RADIO) if asked else ()
     return Result(found, len(line.decoded.passages))
 
 
-def _of_balises(line: Line) -> Iterator[Remark]:
+def _of_balises(line: Line, asked: bool) -> Iterator[Remark]:
     """Packets that no balise sends, and a packet 0 that is not the first one."""
-    for owner, packet in sent(line.decoded, *BY_RADIO):
+    others = {**NOT_BY_BALISES, **(IF_ASKED if asked else {})}
+    for owner, packet in sent(line.decoded, *others):
         if packet.row is not None:
-            yield _remark(owner, packet, "a balise has it, and only radio sends it")
+            yield _remark(owner, packet, f"a balise has it, and only {others[packet.number]} it")
     for owner, packet in sent(line.decoded, COVER_MARKER):
         if packet.row is not None and packet.place > 0:
             words = (
@@ -71,9 +81,22 @@ def _of_balises(line: Line) -> Iterator[Remark]:
             yield _remark(owner, packet, words)
 
 
-def _of_messages(line: Line) -> Iterator[Remark]:
-    """Packets that a message 3 does not have."""
-    for owner, packet in sent(line.decoded, *NOT_BY_RADIO):
+def _authorities(line: Line) -> Iterator[Remark]:
+    """Messages 3 with several packets 15, and those with a packet 12."""
+    for message, form in line.messages:
+        numbers = [packet["nid_packet"] for packet in form["packets"]]
+        count = numbers.count(AUTHORITY_OF_RADIO)
+        if form["nid_message"] == MOVEMENT_AUTHORITY and count > 1:
+            last = len(numbers) - 1 - numbers[::-1].index(AUTHORITY_OF_RADIO)
+            words = f"the message has {count} packets 15, and a message 3 has exactly one"
+            where = Location(message=message, packet=last, number=AUTHORITY_OF_RADIO)
+            yield remark("E6", where, [Fault(words, {"packets": Decimal(count)})])
+    yield from _not_by_radio(line, AUTHORITY)
+
+
+def _not_by_radio(line: Line, *numbers: int) -> Iterator[Remark]:
+    """Packets with these numbers that a message 3 does not have."""
+    for owner, packet in sent(line.decoded, *numbers):
         if packet.row is None:
             yield _remark(owner, packet, "a message 3 has it, and only balises, loops or radio infill units send it")
 
@@ -116,5 +139,5 @@ def _several_remark(passage: Passage, packets: List[Packet]) -> Remark:
     return made._replace(compared=[passage.at(packet) for packet in packets[:-1]])
 
 
-MORE = "two different packets of one kind in a message, and packets that no message 3 has"
+MORE = "two different packets of one kind in a message, a packet 64 in a balise, and packets that no message 3 has"
 RULE = Rule("E6", "passages", __doc__ or "", find, Urgency.WRONG_INFORMATION, optional_part=MORE)
