@@ -1,18 +1,18 @@
 #!/usr/bin/env -S python3 -B
 """Makes docs/variables.md, two schemas and the counts of compared rows from docs/assurance/trace.csv, and the columns
 of this table that state what is in docs/findings.md and in the definitions of crates/*/specs: comments above them, and
-names of numbers. tests/test_trace.py compares all."""
+names of numbers. Makes docs/assurance/raw-layouts.csv of balisekit's raw layouts. tests/test_trace.py compares all."""
 import csv
 import io
 import json
 import re
 
 from variables import schemas
-from variables.page import PAGE, shown, variables_page
-from variables.table import COLUMNS, TABLE, TOP, layouts_of, read_rows
+from variables.page import PAGE, compared_raw, shown, variables_page
+from variables.table import COLUMNS, RAW_TABLE, TABLE, TOP, layouts_of, read_rows
 
 COUNTING = (PAGE, TOP / "docs/assurance/safety.md")
-COUNT = re.compile(r"\d+ of \d+ rows")
+COUNT, RAW_COUNT = re.compile(r"\d+ of \d+ rows"), re.compile(r"\d+ of \d+ raw rows")
 RULE = re.compile(r"(?ms)^## (F\d+): (.*?)$.*?\(SUBSET-026, ([^)]*)\)")
 FINDINGS = RULE.findall((TOP / "docs/findings.md").read_text(encoding="utf-8"))
 COMMENTED = re.compile(r"(?m)((?:^-- .*\n)+)^(?:abbrev |unfoldable )?pub (?:record )?(\S+)")
@@ -108,8 +108,15 @@ def made():
     for name, schema in (("telegram", schemas.telegram), ("message", schemas.message)):
         form = json.dumps(schema(layouts_of(rows), meanings), indent=2, ensure_ascii=False)
         texts[TOP / f"schemas/{name}.json"] = f"{form}\n"
+    raw = compared_raw(read_rows(RAW_TABLE))
+    texts[PAGE] = RAW_COUNT.sub(f"{sum(bool(it.compared) for it in raw)} of {len(raw)} raw rows", texts[PAGE])
+    return {TABLE: table_text(rows), RAW_TABLE: table_text(raw), **texts}
+
+
+def table_text(rows):
+    """The text of a table."""
     csv.writer(file := io.StringIO(), lineterminator="\n").writerows([COLUMNS, *rows])
-    return {TABLE: file.getvalue(), **texts}
+    return file.getvalue()
 
 
 if __name__ == "__main__":

@@ -12,7 +12,7 @@ from balisekit.etcs.layout import bits_of, message_fields, telegram_fields
 from edition.wire import cited, layouts, sections
 from from_trace import FINDINGS, NUMBERING, about, made, names, numbers_in, unit_in, word_of
 import records
-from variables.page import raw_rows
+from variables.page import RAW, compared_raw, raw_rows
 from variables.table import COUNTED, Row, read_rows, rows_of
 
 ROWS = read_rows()
@@ -200,6 +200,17 @@ def test_raw():
     for row in raw_rows():
         if row.variable in {it.variable for it in VARIABLES} - {"M_VERSION"}:
             assert (row.variable, row.bits, row.numbers, row.unit) in known
+
+
+def test_notes_of_raw_rows():
+    """Each raw layout and variable has one row. Its note stays as long as the row, and is lost if the row changes."""
+    rows = compared_raw([])
+    names = [(it.layouts, it.variable) for it in rows]
+    assert len(names) == len({*names}) == len(RAW["layouts"]) + len(RAW["variables"])
+    noted = [it._replace(compared="A. Person, 3.6.0", date="2026-12-01").sealed() for it in rows]
+    assert compared_raw(noted) == noted and all(it.sum for it in noted)
+    changed = [it._replace(sum=it._replace(meaning="other", sum="").sealed().sum) for it in noted]
+    assert compared_raw(changed) == rows
 
 
 @pytest.mark.parametrize("path, text", made().items(), ids=lambda it: getattr(it, "name", ""))

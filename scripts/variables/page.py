@@ -82,6 +82,17 @@ def raw_rows():
         yield row._replace(fault="spare" if row.refused else "")
 
 
+def compared_raw(notes):
+    """The rows of raw-layouts.csv: a layout with its fields and how sure it is, or a variable. Each keeps its note in `notes`."""
+    rows = [Row(layouts=f"{'train ' * (it['from'] == 'train')}packet {it['packet']}", about=json.dumps(it["fields"]),
+                meaning=packet_name(it["packet"], it["from"] == "track"), section="7.4",
+                doubt=": ".join(filter(None, [f"{it['sure']} % sure", it.get("doubt")]))) for it in RAW["layouts"]]
+    rows += [it._replace(section="7.5.1") for it in raw_rows()]
+    kept = {(it.layouts, it.variable): it[-3:] for it in notes}
+    return [it._replace(**dict(zip(it._fields[-3:], kept.get((it.layouts, it.variable), it[-3:])))).sealed()
+            for it in rows]
+
+
 def raw_part(_, what):
     """The layouts, or the variables, of packets that the program keeps as bits."""
     if what == "variables":

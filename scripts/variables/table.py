@@ -12,7 +12,7 @@ from itertools import accumulate, groupby
 from pathlib import Path
 
 TOP = Path(__file__).resolve().parents[2]
-TABLE = TOP / "docs/assurance/trace.csv"
+TABLE, RAW_TABLE = TOP / "docs/assurance/trace.csv", TOP / "docs/assurance/raw-layouts.csv"
 COLUMNS = ("layouts variable bits numbers fault when key unit meaning about section doubt "
            "unstated compared date sum").split()
 COUNTED = "counted"
@@ -70,9 +70,9 @@ class Part(namedtuple("Part", "key count least nodes")):
     condition = property(lambda self: ("", []) if self.count else self.nodes[0].condition)
 
 
-def read_rows():
-    """The rows of the table."""
-    _, *lines = csv.reader(TABLE.read_text(encoding="utf-8").splitlines())
+def read_rows(table=TABLE):
+    """The rows of a table."""
+    _, *lines = csv.reader(table.read_text(encoding="utf-8").splitlines())
     return [Row(*it) for it in lines]
 
 
