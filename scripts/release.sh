@@ -202,9 +202,12 @@ pack() {
     ! targets_of "$3" >/dev/null || dist/pack/targets.py "$room/$name" out/targets "$1" "$4"
     dist/pack/spdx.py "$room/$name" >"$1/balisecheck-$version$4.spdx.json"
     targets_of "$3" >/dev/null && others=s/^@TARGETS@// || others=/^@TARGETS@/d
+    answered="balisecheck $version, SHA-256 $(said program "$room/$name/$dist"): the program"
+    [ ! -e "$room/$name/$dist/libbalisecheck.so.0" ] ||
+        answered="libbalisecheck $version, SHA-256 $(said library "$room/$name/$dist"): the library"
     sed "$others; ${4:+s/^@UNTESTED@//}; /^@UNTESTED@/d; ${key:+s/^@SIGNED@//; /^@UNSIGNED@/d}; /^@SIGNED@/d; s/^@UNSIGNED@//
         s/@VERSION@/$version/g; s/@MARK@/$4/g; s/@BUILD@/${4:+-0untested}/g
-        s/@PROGRAM@/$(said program "$room/$name/$dist")/" dist/pack/release.md >"$1/README.md"
+        s/@ANSWERED@/$answered/" dist/pack/release.md >"$1/README.md"
 }
 
 # sums DIR: checksums of all files there, and their signature.

@@ -76,6 +76,11 @@ def serves(made, prefix):
     has_manuals(prefix)
 
 
+def without_opening(said):
+    """An answer without the line that names the program or the library."""
+    return re.sub("(?m)^(lib)?balisecheck .*SHA-256 .*$", "", said)
+
+
 def has_library(made):
     """Whether the release has the library for C: only one of the stored program has it."""
     return (made.with_name("tree") / STORED / "libbalisecheck.so.0").exists()
@@ -174,7 +179,7 @@ def test_older_system(made):
     needs = f"does not start here: it needs x86-64-v2 and glibc 9.34 or later, and this is {platform.machine()} with " \
         f"{' '.join(platform.libc_ver())}: "
     for command, first in ((f"./install.sh '{prefix}'", "install: not installed, because balisecheck "),
-                           ("./balisekit check examples/table/line.csv", f"balisekit: {program} ")):
+                           ("./balisekit check --timeout 60 examples/table/line.csv", f"balisekit: {program} ")):
         status, said = attempt(tree, command)
         assert status == 3 and said.startswith(first + needs) and "`GLIBC_9.34' not found" in said
         assert said.count("\n") == 1 and not prefix.exists()
@@ -228,7 +233,7 @@ def test_wheel_beside_no_interpreter(options, made, tmp_path):
 
 
 def test_refused_rows(made, venv):
-    """After refused rows the wheel starts no more processes than a clone, because it has the library too."""
+    """The wheel starts no process, because it has the library, and answers as the program of a clone."""
     user = made.with_name("a user of refused rows")
     user.mkdir()
     (user / "count.py").write_text(COUNT)
@@ -237,7 +242,8 @@ def test_refused_rows(made, venv):
     count, said = sh(user, f"PATH='{venv}/bin':$PATH {check}").split("\n", 1)
     of_clone = sh(user, f"BALISECHECK='{program()}' PYTHONPATH='{TOP}/companion/src' {check}").split("\n", 1)
     assert said.endswith("INCOMPLETE: 200 of 1200 telegrams refused, 200 of 200 groups left out\n")
-    assert [count, said] == of_clone and (int(count) < 20 or not (package_of(venv) / "libbalisecheck.so.0").exists())
+    assert without_opening(said) == without_opening(of_clone[1]) and int(of_clone[0]) > 200
+    assert count == "0" or not (package_of(venv) / "libbalisecheck.so.0").exists()
 
 
 def test_without_jinja2(made, venv):
