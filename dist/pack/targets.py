@@ -18,7 +18,7 @@ from pathlib import Path
 TIME = int(os.environ.get("SOURCE_DATE_EPOCH", "0"))
 PAPERS = "LICENSE-APACHE", "LICENSE-MIT", "THIRD-PARTY.md", "dist/x86_64-linux/ABOUT"
 HEADER, MANUAL, PAGE = "crates/balisecheck_c/include/balisecheck.h", "balisecheck.1", "docs/other-systems.md"
-# For each system: its page, what else goes beside its files, and the name of its archive. npm wants the folder `package`.
+# For each system: its page, what else goes beside its files, and its archive, in which npm wants the folder `package`.
 ARCHIVES = {"aarch64-linux": (PAGE, [HEADER, MANUAL], "balisecheck-{}-aarch64-linux{}.tar.gz"),
             "x86_64-windows": (PAGE, [HEADER], "balisecheck-{}-x86_64-windows{}.zip"),
             "wasm64": ("docs/module.md", [], "balisecheck-{}{}.tgz")}
