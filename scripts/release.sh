@@ -187,7 +187,7 @@ tree() {
 # pack TO PROGRAM PAPERS MARK: writes tarball, wheel, packages of Debian, SPDX and the archives for other systems that the
 # papers list, of the files as they stand here, with the mark in their names.
 pack() {
-    local name=balisecheck-$version-x86_64-linux$4 others
+    local name=balisecheck-$version-x86_64-linux$4 others answered
     SOURCE_DATE_EPOCH=$(git log -n 1 --format=%ct)
     export SOURCE_DATE_EPOCH LC_ALL=C TZ=UTC
     umask 022
