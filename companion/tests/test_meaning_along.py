@@ -23,6 +23,7 @@ from meaning_mistakes import (
     announcement_by_radio,
     authority,
     form_of,
+    on_sight,
     restriction,
     session,
     set_in,
@@ -856,6 +857,48 @@ def test_e19(found: Found) -> None:
     assert down and all(each.urgency is Urgency.RULE_ONLY and each.sentence.endswith("both go down") for each in down)
 
 
+def test_e13_of_q_front(found: Found) -> None:
+    """The speed rises at km 12.950, by yellow and green of signal 2, and by green of signal 1."""
+
+    def front(signal: str, aspect: str) -> Change:
+        def change_(rows: List[Row]) -> None:
+            elements = change(rows, signal, aspect, 27)["elements"]
+            speeds = [each["v_static"] for each in elements]
+            elements[speeds.index(20)]["q_front"] = 1
+
+        return change_
+
+    (one,) = found("E13", SHORT, front("Signal 2", GREEN))
+    assert one.sentence == (
+        "at km 12.950, where V_STATIC rises from 100 km/h to 140 km/h, Q_FRONT is 1 (holds until the front has passed), "
+        'and 0 by Signal 1 (km 10.000), aspect "green", row 5'
+    )
+    assert one.location.row and one.location.row.aspect == GREEN
+    everywhere = [front("Signal 1", GREEN), front("Signal 2", YELLOW), front("Signal 2", GREEN)]
+    assert not found("E13", SHORT, all_of(*everywhere))
+
+
+def test_e26(found: Found) -> None:
+    """What no train can follow, each by itself, and a mode that begins at the end of authority."""
+    for packet_, words in (
+        (on_sight(1600), "D_MAMODE 1600 m is beyond the end of authority, 1500 m from the group"),
+        (on_sight(0, 200), "V_MAMODE of the first mode is 200 km/h [40] on sight"),
+        (on_sight(0, 40, 0), "L_MAMODE of the first mode is 0 m"),
+    ):
+        (one,) = found("E26", SHORT, with_packet("Signal 3", YELLOW, packet_))
+        assert one.sentence == words and one.location.row and one.location.row.aspect == YELLOW
+    (one,) = found("E26", SHORT, with_packet("Signal 3", FIXED, on_sight(1000)))
+    assert one.sentence == "D_MAMODE 1000 m is beyond the end of authority, 0 m from the group"  # (at red)
+    for packet_ in (on_sight(1500), on_sight(0, 100), on_sight(0, 635)):
+        assert not found("E26", SHORT, with_packet("Signal 3", YELLOW, packet_))
+
+    def without_authority(rows: List[Row]) -> None:
+        form_of(rows, "Signal 3", YELLOW)["packets"] = [on_sight(0)]
+
+    (one,) = found("E26", SHORT, without_authority)
+    assert one.sentence == "its message has no packet 12 or 15"
+
+
 def test_e19_passes_over_stretches_without_length(found: Found) -> None:
     def empty(rows: List[Row]) -> None:
         meaning_mistakes.reverse_gradients_turned(rows)
@@ -1073,13 +1116,12 @@ def test_e25(found: Found) -> None:
     ]
     for changes, words in cases:
         (one,) = found("E25", SHORT, all_of(*changes))
-        assert words in one.sentence and one.sentence.endswith("whose authority ends at the same place")
+        assert words in one.sentence and one.sentence.endswith(", whose authority ends there too")
         assert one.location.row and one.location.row.aspect == GREEN and one.others == [16]
     assert not found("E25", SHORT, overlap("Signal 3", GREEN, d_ol=201))
     elsewhere = [set_in("Signal 3", GREEN, 12, **danger), set_in("Signal 4", YELLOW, 12, **danger)]
     assert not found("E25", SHORT, all_of(*elsewhere))
-    on_sight = raw(80, f"01{0:015b}00{8:07b}{3000:015b}{20:015b}0{0:05b}")
-    assert not found("E25", SHORT, all_of(without_overlap, with_packet("Signal 3", GREEN, on_sight)))
+    assert not found("E25", SHORT, all_of(without_overlap, with_packet("Signal 3", GREEN, on_sight(0))))
 
 
 def test_e25_of_overlaps_that_depend_on_the_aspect(found: Found) -> None:
