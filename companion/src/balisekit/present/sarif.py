@@ -87,6 +87,7 @@ def document(outcome: Outcome) -> Object:
     checked = outcome.checked
     about = {
         "program": checked.program.version,
+        "programKind": checked.program.kind,
         "programSha256": checked.program.sha256,
         "programKnownBy": checked.program.known_by,
         "settings": settings_json(checked.settings, paths_from(checked)),
@@ -207,7 +208,7 @@ def _entries(outcome: Outcome, lines: Lines) -> Iterator[Object]:
     for entry in outcome.entries:
         link = entry.remark.location.link if entry.remark else None
         own = sorted(names[id(item)] for item in items_of(entry))
-        text = "\n".join(entry_lines(entry))
+        text = "\n".join(entry_lines(entry, with_folded=True))
         result = _result(entry.rule, LEVELS[entry.urgency], text, _locations(outcome, entry, lines), f"{own} {link}")
         result["properties"] = {"urgency": entry.urgency.name.lower(), "values": dict(entry.values)}
         if entry.remark and entry.remark.origin:
