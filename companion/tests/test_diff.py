@@ -112,9 +112,8 @@ def test_a_document_is_as_its_table(run: Run, tmp_path: Path) -> None:
     """The document that `check` has written, with its aspects by their indices."""
     run("check", LINE, "--document", tmp_path / "line.json")
     status, out, _ = run("diff", LINE, tmp_path / "line.json")
-    assert status == 2 and out[-1] == "INCOMPLETE: the content of what was refused is not compared; " + NONE.replace(
-        "removed 0;", "removed 1;", 1
-    )
+    lacks = "the content of what was refused is not compared, names of aspects and messages are not compared"
+    assert status == 2 and out[-1] == f"INCOMPLETE: {lacks}; " + NONE.replace("removed 0;", "removed 1;", 1)
     run("check", LINKS / "line.csv", "--document", tmp_path / "links.json")
     for old, new in (("line.csv", "links.json"), ("links.json", "line.csv"), ("links.json", "links.json")):
         paths = [tmp_path / name if name == "links.json" else LINKS / name for name in (old, new)]

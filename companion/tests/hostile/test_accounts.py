@@ -254,7 +254,9 @@ def test_a_message_in_a_name(table: Write, name: str) -> None:
         "][",
     ]
     for text in (MESSAGE, *(each.join(groups) for each in between for groups in (pairs, fours))):
-        with pytest.raises(TableErrors, match="line 1: after the semicolon are digits as a message has: write one message per line"):
+        with pytest.raises(
+            TableErrors, match="line 1: after the semicolon are digits as a message has: write one message per line"
+        ):
             messages.read(str(table(f"{MESSAGE};{name.format(text)}", name="m.txt")))
 
 
