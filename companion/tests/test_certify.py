@@ -133,7 +133,7 @@ def compare(run: Run, program: Program, folder: Path, path: Path, per_kind: int,
 
 @pytest.mark.uncovered
 def test_quick_way(run: Run, program: Program, tmp_path: Path) -> None:
-    """A change is judged in memory as `check` judges the file. Nothing new is said of a change that is counted apart."""
+    """A change is judged in memory as `check` judges the file. One that is counted apart makes nothing new."""
     assert compare(run, program, tmp_path, LINE, 1, slice(None, None, 9)) > 50
 
 
@@ -385,7 +385,7 @@ def test_same_meaning(program: Program, row: int, path: Tuple[object, ...], numb
     ],
 )
 def test_distances(before: Dict[str, Any], after: Dict[str, Any], legal: bool) -> None:
-    """A distance may move by one metre, and without a distance Q_SCALE means nothing. 32,767 is now, and no distance."""
+    """A distance may move by one metre. Q_SCALE means nothing without one, and 32,767 is now."""
     order = {"nid_packet": 41, "q_dir": 1, "q_scale": 1, "transitions": [{"m_leveltr": 3, "l_ackleveltr": 0}], **before}
     form: Any = {"m_mcount": 255, "packets": [order]}
     line: Any = SimpleNamespace(forms={2: form}, group_of={})

@@ -870,7 +870,8 @@ def test_e13_of_q_front(found: Found) -> None:
 
     (one,) = found("E13", SHORT, front("Signal 2", GREEN))
     assert one.sentence == (
-        "at km 12.950, where V_STATIC rises from 100 km/h to 140 km/h, Q_FRONT is 1 (holds until the front has passed), "
+        "at km 12.950, where V_STATIC rises from 100 km/h to 140 km/h, "
+        "Q_FRONT is 1 (holds until the front has passed), "
         'and 0 by Signal 1 (km 10.000), aspect "green", row 5'
     )
     assert one.location.row and one.location.row.aspect == GREEN

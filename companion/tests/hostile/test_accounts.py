@@ -1,8 +1,6 @@
 """Tables with telegrams that a green could hide: each is judged, refused, or named as not judged (accounts.json)."""
 from __future__ import annotations
 
-import csv
-import io
 import json
 import re
 import xml.etree.ElementTree as ElementTree

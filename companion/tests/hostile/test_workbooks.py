@@ -473,7 +473,8 @@ def test_telegrams_in_comments(table: Write) -> None:
     comments = f"<comments xmlns='{MAIN}'><comment ref='B2'><text><t>{OTHER}</t></text></comment></comments>"
     part = ("xl/comments1.xml", "comments", comments)
     notes = tables.read(str(table(content=workbook(sheet(HEADING, GOOD), more=[part])))).notes
-    said = "digits as telegrams have in comments, text boxes and other parts that are not read: 1, the first in xl/comments1.xml"
+    parts = "comments, text boxes and other parts that are not read"
+    said = f"digits as telegrams have in {parts}: 1, the first in xl/comments1.xml"
     assert said in notes
 
 
