@@ -8,7 +8,13 @@ from balisekit.io.inputs import is_python
 from balisekit.present import headings
 from balisekit.present.account_text import account_lines
 from balisekit.present.accepted_text import accepted_words, fault_lines, verdict_lines
-from balisekit.present.check_text import aspects_found, head_line, last_line as last_line_of_program, left_out_lines
+from balisekit.present.check_text import (
+    aspects_found,
+    head_line,
+    last_line as last_line_of_program,
+    left_out_lines,
+    missing_in,
+)
 from balisekit.present.explanations import Page, page_lines, pages
 from balisekit.present.links_text import compared, empty_rules, found, how_many_compared, not_compared
 from balisekit.present.opening import Shown, opening, paths_from
@@ -59,6 +65,10 @@ class Kind(Enum):
     OF_ENTRIES = "notes on entries"
     ACCOUNT = "what became of the telegrams"
     VERDICT = "how much is open, and the verdict"
+
+
+ABOUT_INPUTS = frozenset({Kind.ACCEPTED, Kind.TABLE, Kind.REFUSED, Kind.LEFT_OUT, Kind.NOT_TRIED, Kind.NOT_DECODED})
+ABOUT_INPUTS |= {Kind.NOT_APPLIED, Kind.FAULT, Kind.OF_ENTRIES, Kind.ACCOUNT}
 
 
 class AnswerLine(NamedTuple):
@@ -245,6 +255,17 @@ def _found(part: Part, applied: Applied) -> str:
     """What the rules of a part have found, and how much was compared with a track plan."""
     counts = f", {how_many_compared(applied)}" if part.family.letter == PLAN else ""
     return f"{part.family.things}: {found(applied)}{counts}"
+
+
+def about_inputs(outcome: Outcome, shown: Shown = str) -> List[str]:
+    """The lines of an answer on how the inputs were read, and on what was not judged: not on what was found."""
+    return [line.text for line in answer(outcome, shown, has_entries=False) if line.kind in ABOUT_INPUTS]
+
+
+def missing(outcome: Outcome) -> List[str]:
+    """What makes an answer INCOMPLETE: what was refused, left out or not read, and rules that compared nothing."""
+    empty = [text for part in outcome.parts if part.applied for text in empty_rules(part.applied).values()]
+    return [*missing_in(outcome.checked), *empty]
 
 
 def verdict(outcome: Outcome) -> str:

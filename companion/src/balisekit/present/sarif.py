@@ -87,6 +87,7 @@ def document(outcome: Outcome) -> Object:
     checked = outcome.checked
     about = {
         "program": checked.program.version,
+        "programKind": checked.program.kind,
         "programSha256": checked.program.sha256,
         "programKnownBy": checked.program.known_by,
         "settings": settings_json(checked.settings, paths_from(checked)),
@@ -172,7 +173,7 @@ def _not_read(outcome: Outcome, lines: Lines) -> Iterator[Object]:
         if not each.asked:
             (text,) = not_judged_lines([each])
             location = _location(table.path, each.rows, lines)
-            yield _result(NOT_JUDGED, "error", text, [location], f"{each.sheet} {each.column}")
+            yield _result(NOT_JUDGED, "error", text, [location], f"{each.sheet} {', '.join(each.columns) or None}")
 
 
 def _not_compared(outcome: Outcome, lines: Lines) -> Iterator[Object]:

@@ -414,6 +414,7 @@ def _looked_at(checked: Checked, applied: Sequence[Family], options: Options, be
         if family.letter == ADDED:
             line.for_pictures()  # (the views of added rules need memory)
         found = look_for(line, options, family.rules, family.notes, family.passed_over)
+        line.after_links()  # (the next rules need memory)
         found = replace(found, notes=(*line.not_applied, *found.notes)) if is_first else found
         yield Part(family, found.remarks, time.perf_counter() - begin, found)
     if line:
@@ -448,7 +449,7 @@ def entry_of_remark(remark: Remark) -> Entry:
     return Entry(
         remark.rule,
         RULES[remark.rule].urgency if remark.urgency is None else remark.urgency,
-        f"{where.packet_words}{remark.words}",
+        ": ".join(filter(None, (where.packet_words, remark.words))),
         numbers,
         group.group if group else None,
         tuple(remark.aspects) or aspects,
