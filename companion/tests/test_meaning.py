@@ -103,13 +103,16 @@ def _moved(metres: int) -> Change:
 
 
 @pytest.mark.parametrize(
-    "metres, fast, found", [(33, 0, 1), (13, 0, 0), (14, 0, 1), (2, 0, 0), (1, 200, 1), (2, 200, 0)]
+    "metres, fast, found",
+    [(33, 0, 1), (13, 0, 0), (14, 0, 1), (2, 0, 0), (1, 200, 1), (2, 200, 0), (2, 300, 0), (3, 301, 1), (4, 301, 0)],
 )
 def test_e11(program: Program, tmp_path: Path, metres: int, fast: int, found: int) -> None:
-    """12 m and 2.3 m, or 3 m above 180 km/h, with one unit of the last decimal."""
+    """12 m and 2.3 m, 3 m above 180 km/h, or 5 m above 300 km/h, with one unit of the last decimal."""
     options = Options(line_speed=fast or None)
     made = remarks(program, written(program, tmp_path / "t.csv", Line(), _moved(metres)), options)
-    assert [(each.rule, each.values["spacing_m"]) for each in made] == [("E11", Decimal(metres))] * found
+    own = [each for each in made if each.location.group and each.location.group.group.name == "Signal 4"]
+    assert [(each.rule, each.values["spacing_m"]) for each in own] == [("E11", Decimal(metres))] * found
+    assert own == made or fast > 300  # (the other groups have 3 m)
 
 
 def test_e11_of_a_balise_without_a_kilometre(program: Program, tmp_path: Path) -> None:

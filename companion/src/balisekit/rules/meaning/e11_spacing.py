@@ -3,7 +3,7 @@
 What it says. Neighbouring balises of a group are less than 2.3 m or more than 12 m apart by their kilometres, or their
 order contradicts the column `nominal`. This column states whether the kilometres rise or fall in nominal direction. The
 rule rests on the installation of balise groups in SUBSET-036 and SUBSET-040.
-- With a `--line-speed` above 180 km/h the least spacing is 3.0 m.
+- With a `--line-speed` above 180 km/h the least spacing is 3.0 m, and above 300 km/h it is 5.0 m.
 - One unit of the last decimal of the kilometres, at most 1 m, is allowed in either direction.
 - A group whose balises all have the same kilometre is not compared.
 
@@ -26,7 +26,7 @@ How to correct it. Correct the kilometre, the group of the row or the column `no
 
 How to accept it. Name the exception for these balises, or the source of their kilometres.
 
-How sure. 88 %, because the distances are from memory.
+How sure. 88 %, because the distances are from memory. The 5.0 m above 300 km/h are 75 % sure.
 """
 from __future__ import annotations
 
@@ -41,10 +41,10 @@ from balisekit.rules.rule import Options, Remark, Result, Rule, Urgency
 from balisekit.tables.model import Row
 from balisekit.tables.names import kilometre
 
-LEAST, LEAST_FAST, GREATEST = Decimal("2.3"), Decimal("3.0"), Decimal(12)
+LEAST, GREATEST = Decimal("2.3"), Decimal(12)
 """In metres."""
-FAST = 180
-"""Above this line speed in km/h the greater least spacing holds."""
+LEAST_ABOVE = ((300, Decimal("5.0")), (180, Decimal("3.0")))
+"""The least spacing above a line speed in km/h."""
 ONE_KILOMETRE = "one kilometre for the group"
 """Why balises are not compared: many tables have only the kilometre of the group."""
 WORDS = {"rising": 1, "falling": -1}
@@ -54,7 +54,8 @@ Place = Tuple[Row, Decimal]
 
 def find(line: Line, options: Options) -> Result:
     """Looks at each two neighbours of a group."""
-    least = LEAST_FAST if options.line_speed is not None and options.line_speed > FAST else LEAST
+    stated = options.line_speed or 0
+    least = next((spacing for speed, spacing in LEAST_ABOVE if stated > speed), LEAST)
     unit, found, looked_at = Decimal(line.decoded.resolution) / 10, [], 0
     skipped: Counter[str] = Counter()
     for group in (group for group in line.groups if group.balises > 1):
