@@ -465,6 +465,21 @@ def test_rows_in_the_sentence_of_a_refusal(program: Program, name: str) -> None:
     assert [(each.answer, each.rules) for each in answers] == [(Answer.FOUND, ("refused",))] * 2
 
 
+def test_line_with_entries_of_one_cause(program: Program, tmp_path: Path) -> None:
+    """Entries that the line itself has are not new, also if one entry stands for them."""
+    path = tmp_path / "line.csv"
+    path.write_text(LINE.read_text("utf-8").replace(",16.0", ",16.4"), "utf-8")
+    baseline, made = tried(program, path, 1)
+    (entry,) = baseline.outcome.entries
+    assert len(entry.folded) > 1
+    answers = [judged(baseline, each) for each in made if each.mistake.name == "packet twice"]
+    assert not [each for each in answers for other in entry.folded if other.sentence == each.sentence]
+    (twice,) = [
+        each for each in made if "row 17: packet 27, at place 3 of the telegram, is there twice" in each.change.words
+    ]
+    assert judged(baseline, twice).answer is Answer.NOT_FOUND
+
+
 def test_cell_that_is_refused(program: Program) -> None:
     """A changed cell that the reader of tables refuses is found, also if no rule compares its row."""
     baseline, made = tried(program, TOP / "examples" / "links" / "line.csv", 3)
