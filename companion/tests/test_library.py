@@ -11,6 +11,7 @@ import shutil
 import subprocess
 import sys
 import threading
+import time
 from dataclasses import replace
 from pathlib import Path
 from typing import Any, Callable, Dict, Iterator, List, Optional
@@ -114,14 +115,14 @@ def clone(program: Program, library: LoadedLibrary, tmp_path: Path, monkeypatch:
     for name in ("crates.txt", "HANDLES", "companion/pyproject.toml", "crates/one/src/lib.rt"):
         (tmp_path / name).touch()
     shutil.copy(library.path, stored)
-    version = opened(library.path).version  # type: ignore[union-attr]
-    about = f"version {version}\nprogram {program.sha256}\nlibrary {library.sha256}\n"
+    about = f"version {library._library.version}\nprogram {program.sha256}\nlibrary {library.sha256}\n"
     (stored / "ABOUT").write_text(about, "utf-8")
     (tmp_path / "balisecheck").write_text(f"#!/bin/sh\necho {program.path}\n")
     monkeypatch.setattr(find_program, "TOP", str(tmp_path))
     monkeypatch.setattr(find_program, "PACKAGE", str(tmp_path))
     monkeypatch.setattr(find_program, "current_library", find_program.current_library.__wrapped__)
     monkeypatch.delenv("BALISECHECK")
+    time.sleep(0.02)  # (a change within the same tick of the clock has the same time)
     yield tmp_path
 
 

@@ -75,10 +75,12 @@ class Judge:
     by_position: bool = False
     everything: bool = False
 
-    def outcome(self, program: Program, table: Table, messages: Optional[Messages]) -> Outcome:
-        """What all rules find of a changed line."""
+    def outcome(
+        self, program: Program, table: Table, messages: Optional[Messages], with_causes: bool = True
+    ) -> Outcome:
+        """What all rules find of a changed line. The search for causes takes most of the time."""
         made = checking.check(program, table, messages, self.by_position, self.everything)
-        return apply(made, self.letters, self.options, self.signed)
+        return apply(made, self.letters, self.options, self.signed, with_causes=with_causes)
 
 
 class Baseline:
@@ -100,10 +102,17 @@ class Baseline:
             checked = self.outcome.checked
             table = changed_table(checked.table, change, texts, self.judge.by_position)
             messages = changed_messages(checked.messages, change, texts)
-            outcome = self.judge.outcome(checked.program, table, messages)
+            judgement = self._judgement(change, self.judge.outcome(checked.program, table, messages, False))
+            # (an entry that stands for others names all rows that these name, and those of its correction)
+            if judgement.answer is Answer.ELSEWHERE:
+                judgement = self._judgement(change, self.judge.outcome(checked.program, table, messages))
+            return judgement
         except (TableError, TableErrors) as error:
             refused = [Named(REFUSED, str(fault), rows_of_refusal(fault)) for fault in error.faults]
             return _said(change, refused, ())
+
+    def _judgement(self, change: Change, outcome: Outcome) -> Judgement:
+        """What the answer about a changed line says of the change."""
         new = list((Counter(_named(outcome)) - self._named).elements())
         judgement = _said(change, new, self._new_hints(Counter(_hints(outcome))))
         if change.legal and judgement.answer is Answer.NOT_FOUND and not Counter(_findings(outcome)) - self._findings:

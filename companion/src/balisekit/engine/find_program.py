@@ -95,30 +95,30 @@ def answering(named: Optional[str], timeout: Optional[float]) -> str:
 
 
 def _has_changed_since(path: str) -> bool:
-    """Whether a file or folder of the sources has changed after ABOUT was written, or something was built since.
+    """Whether a file of the sources has changed after ABOUT was written, or come or gone, or something was built.
 
     To hash all sources takes several times as long. A fresh clone or tarball writes its files by their names, and so
-    ABOUT after the sources.
+    ABOUT after the sources. (It can set the times of folders at its end, which come from it then.)
     """
     if os.path.exists(os.path.join(TOP, "out", "balisecheck")):
         return True
     written = os.stat(os.path.join(os.path.dirname(path), ABOUT)).st_ctime_ns
     crates = os.path.join(TOP, "crates")
-    folders = [os.path.join(crates, crate, part) for crate in os.listdir(crates) for part in ("src", "specs", "proofs")]
-    found = [os.path.join(TOP, name) for name in ("crates.txt", "HANDLES")]
-    if any(os.stat(each).st_ctime_ns > written for each in (crates, *found)):
+    if any(os.stat(os.path.join(TOP, name)).st_ctime_ns > written for name in ("crates.txt", "HANDLES")):
         return True
-    return any(_is_newer(folder, written) for folder in folders if os.path.isdir(folder))
+    folders = [os.path.join(crates, crate, part) for crate in os.listdir(crates) for part in ("src", "specs", "proofs")]
+    return os.stat(crates).st_mtime_ns > written or any(_is_newer(each, written) for each in folders)
 
 
 def _is_newer(folder: str, written: int) -> bool:
-    """Whether the folder, or anything in it, has changed after this time."""
-    if os.stat(folder).st_ctime_ns > written:
-        return True
-    with os.scandir(folder) as entries:
+    """Whether the folder, if there is one, or anything in it has changed after this time."""
+    with suppress(FileNotFoundError), os.scandir(folder) as entries:
+        if os.stat(folder).st_mtime_ns > written:
+            return True
         return any(
             _is_newer(each.path, written) if each.is_dir() else each.stat().st_ctime_ns > written for each in entries
         )
+    return False
 
 
 def find(named: Optional[str]) -> str:

@@ -108,8 +108,8 @@ class Program:
     def find(cls, named: Optional[str] = None, timeout: Optional[float] = None) -> Program:
         """The program of this path, else of BALISECHECK, else the library that was stored with this balisekit, else the
         program of the clone, else the installed one. `KitError` is raised if there is none, if its checksum is not
-        known and no path was given, or if it fails a trial run. With a timeout no library answers: nothing can end a
-        call."""
+        known and no path was given, or if it fails a trial run. With a limit of time no library answers, because
+        nothing can end a call."""
         library = None if find_program.is_asked_for(named, timeout) else _library()
         if library:
             return library
@@ -246,7 +246,7 @@ class Program:
         size = os.lseek(document.fileno(), 0, os.SEEK_END)
         os.lseek(document.fileno(), 0, os.SEEK_SET)
         with self._run(["check"], document, size) as run:
-            return _report(run, size)
+            return read_report(run, size)
 
     def _run(self, words: Sequence[str], stdin: IO[bytes], size: int) -> Run:
         return Run(self.path, words, stdin, Limit.of(size, self.timeout, self._stop))
@@ -302,7 +302,7 @@ def pieces(document: Union[str, bytes, Mapping[str, Any], Iterable[str]]) -> Ite
         yield piece.encode("utf-8", "surrogatepass") if isinstance(piece, str) else piece
 
 
-def _report(run: Run, size: int) -> Union[Report, Refusal]:
+def read_report(run: Union[Run, Call], size: int) -> Union[Report, Refusal]:
     """What a run of `check` writes for a document of this size."""
     lines = run.lines()
     first = next(lines, "")

@@ -6,7 +6,6 @@ follows a packet 136 counts from the group that it names, and not from the group
 from __future__ import annotations
 
 from dataclasses import dataclass
-from functools import cached_property
 from typing import Iterator, List, Mapping, Optional, Sequence
 
 from balisekit.etcs.geometry import DIRECTIONS, in_order, until_infill
@@ -28,6 +27,7 @@ from balisekit.tables.model import Message, Row
 class Passage:
     """What a train gets that passes a group in one aspect and direction, or that is sent a message 3."""
 
+    __slots__ = ("group", "aspect", "direction", "said", "reference", "infill", "message")
     group: Optional[GroupData]
     """The group from which its distances count. It is None for a message whose group is not in the table."""
     aspect: str
@@ -35,13 +35,13 @@ class Passage:
     direction: str
     said: Sequence[Packet]
     """The packets before a packet 136, in the order of passing, without those of silent balises."""
-    reference: Optional[Packet] = None
+    reference: Optional[Packet]
     """The first packet 136."""
-    infill: Sequence[Packet] = ()
+    infill: Sequence[Packet]
     """The packets that follow it: their distances count from the group that it names."""
-    message: Optional[Message] = None
+    message: Optional[Message]
 
-    @cached_property
+    @property
     def way(self) -> Optional[int]:
         """1 if the passage goes towards greater kilometres, -1 if towards lower ones."""
         return self.group.group.along(self.direction) if self.group else None

@@ -2,6 +2,7 @@
 from __future__ import annotations
 
 from decimal import Decimal
+from functools import lru_cache
 from typing import Callable, Dict, Iterable, Iterator, List, Mapping, NamedTuple, Optional, Sequence, Tuple, TypeVar
 
 from balisekit.etcs.geometry import ELEMENT_KEYS
@@ -111,6 +112,7 @@ def speed(value: int) -> str:
     return f"{value * 5} km/h [{value}]"
 
 
+@lru_cache(maxsize=None)
 def kmh(value: int) -> Decimal:
     """A speed in km/h, as a value of a remark."""
     return Decimal(value * 5)
