@@ -14,9 +14,5 @@ pub fn without_mark(text: &[u8]) -> &[u8]
         return text;
     }
     let (front, rest) = text.split_at(3);
-    if front == MARK.as_slice() {
-        rest
-    } else {
-        text
-    }
+    if front == MARK.as_slice() { rest } else { text }
 }
