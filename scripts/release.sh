@@ -20,8 +20,9 @@
 #     4. git -c gpg.format=ssh -c user.signingKey=KEY tag -s -m 'Balisecheck 0.6.0' v0.6.0
 #     5. All of out/release is handed out, and the tag with the clone.
 #
-# `store` takes what the gate, or scripts/build and then scripts/library, have built from these sources in out/, and runs
-# tests/dist. A program that differs from the stored one needs a new version number. A release needs the output of
+# `store` takes what the gate, or scripts/build, scripts/library and scripts/targets, have built from these sources in out/,
+# and runs tests/dist. A program that differs from the stored one needs a new version number. Of the files for other
+# systems only the checksums are stored, and a release takes these files from out/. It also needs the output of
 # `.ci/run` in out/gate.log, of `tests/edits --all` in out/edits.log and of `tests/plants` in out/plants.log. Two runs on
 # one commit with the same tools, and the same key, give the same bytes. Debian 12 and 13 give the same tarball, .deb and
 # SPDX, but their wheels name different versions of hatchling. They need git, python3-hatchling, help2man, dpkg-deb, and
@@ -75,6 +76,17 @@ has_library() {
         fail 'the library in out is damaged, missing or of other sources: scripts/library'
 }
 
+# targets_of PAPERS: the files for other systems that these papers list, each with its checksum.
+targets_of() {
+    grep '^[^ ]*/' "$1" 2>/dev/null
+}
+
+# are_targets PAPERS: whether out/targets has the files for other systems that these papers list, and they list some.
+are_targets() {
+    targets_of "$1" >"$room/targets" &&
+        sed 's/\(.*\) \(.*\)/\2  \1/' "$room/targets" | (cd out/targets && sha256sum --quiet -c -) >/dev/null 2>&1
+}
+
 # is_passed LOG COMMAND: fails if there is no log, or its last line does not report that everything passed.
 is_passed() {
     tail -n 1 "$1" 2>/dev/null | grep -qE '(^|[ :])[1-9][0-9]* passed, 0 failed$' || fail "no $1 in which everything passed: $2 | tee $1"
@@ -105,7 +117,7 @@ papers() {
 
 # said WORD FOLDER: what the papers in the folder say.
 said() {
-    sed -n "s/^$1 //p" "$2/ABOUT"
+    sed -n "s,^$1 ,,p" "$2/ABOUT"
 }
 
 # raise: writes the next number, and a heading for it above what is not released yet.
@@ -119,26 +131,33 @@ raise() {
 # has_a_number: fails if another program has the number of the one in out/, and raises the number then.
 has_a_number() {
     local other
-    other=$(awk -v version="$version" -v program="$(sum_of out/balisecheck)" '$1 == version && $4 != program' dist/RELEASES)
+    other=$(awk -v version="$version" -v program="$(sum_of out/balisecheck)" \
+        'NF == 5 && $1 == version && $4 != program' dist/RELEASES)
     [ -z "$other" ] && return
     raise
     fail "$version is the number of another program (dist/RELEASES), and the new program has it built in"
 }
 
 store() {
-    local line before=$room/before
+    local line other sum before=$room/before
     is_committed crates.txt HANDLES crates
     is_right out 'scripts/build'
     has_library
+    grep -qsx "sources $(dist/sources)" out/TARGETS && are_targets out/TARGETS ||
+        fail 'the files for other systems in out are damaged, missing or of other sources: scripts/targets'
     has_a_number
     mkdir -p "$dist"
     cp -a dist "$before"
     install -m 755 out/balisecheck "$dist/balisecheck"
     rm -f "$dist"/libbalisecheck.*
     install -m 644 out/libbalisecheck.a out/libbalisecheck.so.0 "$dist"
-    { papers out/balisecheck; sed 1d out/LIBRARY; } >"$dist/ABOUT"
-    line="$version $(said commit "$dist") $(said sources "$dist") $(said program "$dist")"
-    grep -q "^$line " dist/RELEASES || echo "$line $(date -u +%F)" >>dist/RELEASES
+    { papers out/balisecheck; sed 1d out/LIBRARY; sed 1d out/TARGETS; } >"$dist/ABOUT"
+    line="$version $(said commit "$dist") $(said sources "$dist")"
+    grep -q "^$line $(said program "$dist") " dist/RELEASES || echo "$line $(said program "$dist") $(date -u +%F)" >>dist/RELEASES
+    for other in aarch64-linux/balisecheck x86_64-windows/balisecheck.exe; do
+        sum=$(said "$other" "$dist")
+        grep -q "^$line $sum .* $other\$" dist/RELEASES || echo "$line $sum $(date -u +%F) $other" >>dist/RELEASES
+    done
     if ! BALISECHECK=$PWD/out/balisecheck tests/dist; then
         rm -rf "$dist"
         cp -a "$before/." dist
@@ -165,10 +184,10 @@ tree() {
     sign "$1"
 }
 
-# pack TO PROGRAM PAPERS MARK: writes tarball, wheel, packages of Debian and SPDX of the files as they stand here, with the mark in
-# their names.
+# pack TO PROGRAM PAPERS MARK: writes tarball, wheel, packages of Debian, SPDX and the archives for other systems that the
+# papers list, of the files as they stand here, with the mark in their names.
 pack() {
-    local name=balisecheck-$version-x86_64-linux$4
+    local name=balisecheck-$version-x86_64-linux$4 others answered
     SOURCE_DATE_EPOCH=$(git log -n 1 --format=%ct)
     export SOURCE_DATE_EPOCH LC_ALL=C TZ=UTC
     umask 022
@@ -180,10 +199,15 @@ pack() {
     (cd "$1" && sha256sum "$name.tar.gz" >"$name.tar.gz.sha256")
     dist/pack/wheel "$room/$name" "$1" "$4"
     dist/pack/deb "$room/$name" "$1" "$4"
+    ! targets_of "$3" >/dev/null || dist/pack/targets.py "$room/$name" out/targets "$1" "$4"
     dist/pack/spdx.py "$room/$name" >"$1/balisecheck-$version$4.spdx.json"
-    sed "${4:+s/^@UNTESTED@//}; /^@UNTESTED@/d; ${key:+s/^@SIGNED@//; /^@UNSIGNED@/d}; /^@SIGNED@/d; s/^@UNSIGNED@//
+    targets_of "$3" >/dev/null && others=s/^@TARGETS@// || others=/^@TARGETS@/d
+    answered="balisecheck $version, SHA-256 $(said program "$room/$name/$dist"): the program"
+    [ ! -e "$room/$name/$dist/libbalisecheck.so.0" ] ||
+        answered="libbalisecheck $version, SHA-256 $(said library "$room/$name/$dist"): the library"
+    sed "$others; ${4:+s/^@UNTESTED@//}; /^@UNTESTED@/d; ${key:+s/^@SIGNED@//; /^@UNSIGNED@/d}; /^@SIGNED@/d; s/^@UNSIGNED@//
         s/@VERSION@/$version/g; s/@MARK@/$4/g; s/@BUILD@/${4:+-0untested}/g
-        s/@PROGRAM@/$(said program "$room/$name/$dist")/" dist/pack/release.md >"$1/README.md"
+        s/@ANSWERED@/$answered/" dist/pack/release.md >"$1/README.md"
 }
 
 # sums DIR: checksums of all files there, and their signature.
@@ -197,6 +221,7 @@ release() {
     is_committed "${handed[@]}" native VERSION dist crates.txt HANDLES crates
     is_right "$dist" 'scripts/release.sh store'
     [ "$(said version "$dist")" = "$version" ] || fail "the stored program is not $version: scripts/release.sh store"
+    are_targets "$dist/ABOUT" || fail "out/targets has not the files for other systems that ABOUT lists: scripts/targets"
     is_passed out/gate.log .ci/run
     grep -qx "== sources $(said sources "$dist")" out/gate.log || fail 'out/gate.log is from other sources: .ci/run | tee out/gate.log'
     is_passed out/edits.log 'tests/edits --all'
@@ -222,6 +247,7 @@ try() {
     if cmp -s "$program" "$dist/balisecheck"; then
         sed -i "s/^kit .*/kit $(said kit "$dist")/" "$room/ABOUT"
         sed -n '/^archive \|^library /p' "$dist/ABOUT" >>"$room/ABOUT"
+        ! are_targets "$dist/ABOUT" || targets_of "$dist/ABOUT" >>"$room/ABOUT"
     fi
     pack "$1" "$program" "$room/ABOUT" -untested
     sums "$1"

@@ -8,8 +8,13 @@ packages='python3 gcc clang cmake pkgconf=pkg-config libc6-dev=/usr/include/stdi
     python3-hatchling openssh-client=ssh-keygen shellcheck python3-license-expression=python:license_expression
     python3-venv=python:ensurepip mypy=python:mypy flake8=python:flake8 black=python:black
     wamerican=/usr/share/dict/american-english wbritish=/usr/share/dict/british-english'
-# Installed separately: it is large, and some distributions lack it.
+# Installed only by the gate: it is large, and some distributions lack it.
 browser=chromium
+# What runs the program for other systems, as large: also installed only by the gate. (nodejs 20 or later is needed.)
+systems='nodejs=node node-typescript=tsc firefox-esr unzip qemu-user=qemu-aarch64 gcc-aarch64-linux-gnu=aarch64-linux-gnu-gcc
+    libc6-arm64-cross=/usr/aarch64-linux-gnu/lib/libc.so.6 libc6-dev-arm64-cross=/usr/aarch64-linux-gnu/include/stdio.h
+    wine wine64=/usr/lib/wine/wine64 gcc-mingw-w64-x86-64=x86_64-w64-mingw32-gcc
+    binutils-mingw-w64-x86-64=x86_64-w64-mingw32-objdump'
 
 # Debian's Python has Debian's packages, whatever comes first on the path.
 python=${PYTHON:-/usr/bin/python3}

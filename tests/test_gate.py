@@ -15,9 +15,9 @@ COUNTED = PASSES + "echo '2 passed, 0 failed'\n"
 def a_gate(tmp_path):
     """Runs .ci/run in a folder where each of these steps is replaced by a text."""
     def gate(*words, **replaced):
-        others = ["dist/sources", "dist/hand-over", "dist/keep-libraries", "scripts/library"]
+        others = ["dist/sources", "dist/hand-over", "dist/keep-libraries", "scripts/library", "scripts/targets"]
         texts = dict.fromkeys([*STEPS, *others], COUNTED)
-        texts.update({"tests/packages.sh": "install() { :; }\npackages= browser=\n", **replaced})
+        texts.update({"tests/packages.sh": "install() { :; }\npackages= browser= systems=\n", **replaced})
         for name, text in texts.items():
             path = tmp_path / name
             path.parent.mkdir(exist_ok=True)

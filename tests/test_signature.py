@@ -13,7 +13,8 @@ from tiny import attempt, made, sh, write
 pytestmark = pytest.mark.skipif(not (shutil.which("git") and shutil.which("ssh-keygen")),
                                 reason="signatures (git, openssh-client)")
 FROM_HERE = ("scripts/verify-release", "dist/allowed_signers", "dist/pack/readme", "dist/pack/first-answer.md",
-             "dist/pack/release.md")
+             "dist/pack/release.md", "dist/pack/targets.py", "LICENSE-APACHE", "LICENSE-MIT", "THIRD-PARTY.md",
+             "docs/module.md", "docs/other-systems.md")
 # What stands in for packages. The tarball is the real one.
 STAND_INS = {**dict.fromkeys(("dist/pack/manual", "dist/pack/links", "scripts/install.sh"), "#!/bin/sh\n"),
              "dist/pack/spdx.py": "#!/bin/sh\necho '{}'\n", "README.md": "# A tool\n\n## Try it\n\nit\n",
@@ -40,7 +41,7 @@ def a_folder_with_releases(tmp_path_factory):
     (room / "signers").write_text(f"# keys\n{line}", "utf-8")
     said = sh(tree, f"{TRY} ../signed --sign ../key; {TRY} ../unsigned")
     assert said == "written: ../signed\nrelease: unsigned, since there is no --sign KEY\nwritten: ../unsigned\n"
-    sh(room, "mkdir unpacked; tar -xzf signed/*.tar.gz -C unpacked --strip-components=1")
+    sh(room, "mkdir unpacked; tar -xzf signed/*-x86_64-linux*.tar.gz -C unpacked --strip-components=1")
     return room
 
 
@@ -61,7 +62,7 @@ def test_same_bytes(room):
     assert sh(room, "diff -r signed again; diff -r unsigned without") == ""
     assert sh(room, "ls {signed,unsigned}/SHA*").split() == [
         "signed/SHA256SUMS", "signed/SHA256SUMS.sig", "unsigned/SHA256SUMS"]
-    sh(room, "mkdir other_tree; tar -xzf unsigned/*.tar.gz -C other_tree --strip-components=1")
+    sh(room, "mkdir other_tree; tar -xzf unsigned/*-x86_64-linux*.tar.gz -C other_tree --strip-components=1")
     for folder, is_signed in (("signed", True), ("unpacked", True), ("unsigned", False), ("other_tree", False)):
         text = (room / folder / "README.md").read_text("utf-8")
         assert ("**This release is unsigned**" in text) is not is_signed, folder
@@ -74,7 +75,8 @@ def test_verified(room):
     status, said = verify(room)
     assert status == 0 and re.fullmatch(
         r'signature: Good "balisecheck-release" signature for balisecheck-release with ED25519 key SHA256:\S+\n'
-        r"files: 6, as listed\nsources: \w{64}, those of \S.*\nverified: balisecheck 1\.2\.9\n", said)
+        r"files: 9, as listed\nsources: \w{64}, those of \S.*\naarch64-linux: 3 files, those of ABOUT\n"
+        r"wasm64: 3 files, those of ABOUT\nx86_64-windows: 3 files, those of ABOUT\nverified: balisecheck 1\.2\.9\n", said)
     status, said = verify(room, "--key ../signers ../unpacked")
     assert status == 0 and "\nnote: " not in said and said.endswith("\nverified: balisecheck 1.2.9\n")
     status, said = attempt(room / "unpacked", "./verify-release --key ../signers .")
@@ -131,9 +133,9 @@ NO_LIST, NEITHER = "SHA256SUMS is not the list of a release: line ", " is neithe
     (f"printf '\\0' >>SHA256SUMS; rm *.sig; {SIGN}", 1, NO_LIST),
     (f": >SHA256SUMS; rm *.sig; {SIGN}", 1, NO_LIST), (f"rm *; : >SHA256SUMS; {SIGN}", 1, NO_LIST),
     (f"rm *; echo it >a; {LIST}; {SIGN}", 1, NO_ABOUT),
-    (f"rm *.tar.gz; {LIST}; {SIGN}", 1, NO_ABOUT),
-    (f"cp *.tar.gz balisecheck-2-x86_64-linux.tar.gz; {LIST}; {SIGN}", 1, NO_ABOUT),
-    (f"echo >$(echo *.tar.gz); {LIST}; {SIGN}", 1, NO_ABOUT)])
+    (f"rm *-x86_64-linux*.tar.gz; {LIST}; {SIGN}", 1, NO_ABOUT),
+    (f"cp *-x86_64-linux*.tar.gz balisecheck-2-x86_64-linux.tar.gz; {LIST}; {SIGN}", 1, NO_ABOUT),
+    (f"echo >$(echo *-x86_64-linux*.tar.gz); {LIST}; {SIGN}", 1, NO_ABOUT)])
 def test_refused(room, command, status, why):
     """After the command in the folder of the release it is refused, or cannot be checked."""
     sh(room / "signed", command)
@@ -161,6 +163,18 @@ def test_other_sources(room, command, why):
         assert status == 1 and f"verify-release: refused: {why}" in said, said
 
 
+@pytest.mark.parametrize("archive, name", [
+    ("*-aarch64-linux*.tar.gz", "balisecheck"), ("*-x86_64-windows*.zip", "balisecheck.dll"), ("*.tgz", "balisecheck.d.mts")])
+def test_other_systems(room, archive, name):
+    """Each archive for another system has the files that ABOUT lists, even if the right key has signed other ones."""
+    sh(room / "tree", "targets other; { sed '/[/]/d' $stored/ABOUT; sed 1d out/TARGETS; } >new; mv new $stored/ABOUT")
+    sh(room / "tree", f"{TRY} ../changed; cd ../signed; cp ../changed/{archive} .; {LIST}; {SIGN}")
+    status, said = verify(room)
+    assert status == 1 and re.search(rf"refused: {re.escape(name)} in balisecheck-\S+ is not the one that ABOUT names", said)
+    sh(room / "signed", f"rm {archive}; {LIST}; {SIGN}")
+    assert verify(room)[0] == 0
+
+
 @pytest.mark.parametrize("word", ["version", "sources", "program"])
 def test_a_line_of_about_twice(room, word):
     """A second line could hide that no list has the program: one of a released version is enough for `grep`."""
@@ -182,7 +196,7 @@ def test_other_clone(room):
     tree = room / "tree"
     sh(tree, "echo // >>crates/etcs_low/src/lib.rt")
     assert " listed in " in verify(room)[1] and verify(room, "--unsigned ../unsigned")[0] == 0
-    sh(tree, "sed -i '$d' dist/RELEASES")
+    sh(tree, "sed -i '/ [-0-9]*$/d' dist/RELEASES")
     for folder in ("signed", "unpacked"):
         status, said = verify(room, f"--key ../signers ../{folder}")
         assert status == 0 and " listed only in its own dist/RELEASES" in said
@@ -287,7 +301,7 @@ def test_this_tree(kept, tmp_path):
         write(tmp_path / "tools" / name, f"#!/bin/sh\n{text}")
     command = f"PATH='{tmp_path}/tools:/usr/bin:/bin' BALISECHECK='{program()}' scripts/release.sh --try '{tmp_path}"
     sh(TOP, f"{command}/one' --sign '{kept}/key' & {command}/two' --sign '{kept}/key'; wait")
-    assert sh(tmp_path, "diff -r one two; mkdir tree; tar -xzf one/*.tar.gz -C tree --strip-components=1") == ""
+    assert sh(tmp_path, "diff -r one two; mkdir tree; tar -xzf one/*-x86_64-linux*.tar.gz -C tree --strip-components=1") == ""
     for folder in ("one", "tree"):
         said = sh(TOP, f"scripts/verify-release --key '{kept}/signers' '{tmp_path}/{folder}'")
         assert " those of " in said and "\nverified: balisecheck " in said

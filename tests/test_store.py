@@ -22,8 +22,12 @@ def refused(tree, why, words=""):
 
 
 def releases(tree):
-    """The numbers in dist/RELEASES."""
-    return [line.split()[0] for line in (tree / "dist/RELEASES").read_text("utf-8").splitlines()[1:]]
+    """The numbers of the programs in dist/RELEASES, each of which has two more lines for other systems."""
+    lines = [line.split() for line in (tree / "dist/RELEASES").read_text("utf-8").splitlines()[1:]]
+    programs = [line for line in lines if len(line) == 5]
+    assert [line[0] for line in lines] == [line[0] for line in programs for _ in range(3)]
+    assert {line[5] for line in lines if len(line) == 6} == {"aarch64-linux/balisecheck", "x86_64-windows/balisecheck.exe"}
+    return [line[0] for line in programs]
 
 
 @pytest.fixture(scope="module", name="kept")
@@ -33,7 +37,7 @@ def a_kept_tree(tmp_path_factory):
     write(room / "tools/readelf", READELF)
     write(room / "tools/rt", "#!/bin/sh\necho a kit\n")
     said = sh(made(room / "a tree"), "git init -q; save; built one; scripts/release.sh store; save")
-    assert "the stored program: 13 passed, 0 failed\nstored: commit dist" in said
+    assert "the stored program: 15 passed, 0 failed\nstored: commit dist" in said
     return room
 
 
@@ -46,7 +50,7 @@ def a_stored_program(kept, tmp_path):
 def test_store(stored):
     """To store again changes nothing. Each commit of sources gets a line in dist/RELEASES."""
     sh(stored, "scripts/release.sh store")
-    assert sh(stored, "git status --porcelain") == "" and sh(stored, f"grep -c ' {TODAY}$' dist/RELEASES") == "1\n"
+    assert sh(stored, "git status --porcelain") == "" and sh(stored, f"grep -c ' {TODAY}' dist/RELEASES") == "3\n"
     sh(stored, "echo // >>crates/etcs_low/src/lib.rt; save; built one; scripts/release.sh store")
     assert releases(stored) == ["1.2.9"] * 2
 
@@ -57,6 +61,9 @@ def test_store(stored):
     ("echo >>out/balisecheck", "the program in out is damaged: scripts/build"),
     ("echo >>out/libbalisecheck.so.0", "the library in out is damaged, missing or of other sources: scripts/library"),
     ("sed -i '1s/.*/sources 0/' out/LIBRARY", "the library in out is damaged, missing or of other sources: "),
+    ("rm out/targets/wasm64/package.json", "the files for other systems in out are damaged, missing or of other sources: "),
+    ("echo >>out/targets/x86_64-windows/balisecheck.exe", "the files for other systems in out are damaged, missing or of "),
+    ("sed -i '1s/.*/sources 0/' out/TARGETS", "the files for other systems in out are damaged, missing or of other sources: "),
     ("sed -i s/1[.]2[.]9/9.9.9/ man/balisecheck.1", "not stored, since tests/dist failed")])
 def test_not_stored(stored, command, why):
     """After the command nothing is stored."""
@@ -85,7 +92,8 @@ def test_release(stored):
     for command, why in (
             (":", "the program in dist/x86_64-linux was built from other sources: scripts/release.sh store"),
             ("scripts/release.sh store", "not committed: "),
-            ("save", "no out/gate.log in which everything passed: .ci/run"),
+            ("save; mv out/targets out/other", "out/targets has not the files for other systems that ABOUT lists: "),
+            ("mv out/other out/targets", "no out/gate.log in which everything passed: .ci/run"),
             ("echo '9 passed, 1 failed' >out/gate.log", "no out/gate.log in which everything passed: .ci/run"),
             ("echo '10 passed, 0 failed' >out/gate.log", "out/gate.log is from other sources: .ci/run"),
             ("sed -i \"1i== sources $(dist/sources)\" out/gate.log", "no out/edits.log in which everything passed: "),
@@ -105,7 +113,7 @@ VERSIONED = ("ABOUT", "../../VERSION", "../../man/balisecheck.1", "../../CHANGEL
     ("rm ABOUT", "ABOUT has these lines"), ("touch libc.so.6", "nothing else is stored"),
     *((f"sed -i s/1[.]2[.]9/9.9.9/ {name}", "the version is that of") for name in VERSIONED),
     (f"sed -i s/1[.]2[.]9/9.9.9/ ../RELEASES {' '.join(VERSIONED)}", "the version is that of"),
-    ("sed -i '$d' ../RELEASES", "the last line of dist/RELEASES"),
+    ("sed -i '/ [-0-9]*$/d' ../RELEASES", "the last line of dist/RELEASES"),
     ("sed -i '2p; 2s/ [^ ]* 2/ 0 2/' ../RELEASES", "no number there is of two programs"),
     *((f"echo >>{name}", "program and library are undamaged") for name in ("balisecheck", "libbalisecheck.a")),
     ("chmod -x balisecheck", "the stored program can be run"), ("sed -i s/2.34/2.17/ ABOUT", "it needs this C library"),
@@ -115,7 +123,11 @@ VERSIONED = ("ABOUT", "../../VERSION", "../../man/balisecheck.1", "../../CHANGEL
     ("echo >>../../out/balisecheck; sed -i 's/^kit .*/kit another/' ABOUT", "It was built by another kit, another."),
     ("rm ../../out/balisecheck", "the stored program is the one that was built here"),
     ("rm ../../out/LIBRARY", "the stored library is the one that was built here"),
-    ("sed -i s/[0-9a]$/b/ ../../out/LIBRARY", "the stored library is the one that was built here")])
+    ("sed -i s/[0-9a]$/b/ ../../out/LIBRARY", "the stored library is the one that was built here"),
+    ("rm ../../out/TARGETS", "the files for other systems are those that were built here"),
+    ("sed -i '/wasm64/d' ABOUT ../../out/TARGETS", "ABOUT has these lines"),
+    ("sed -i '/mjs/s/[0-9a]$/b/' ABOUT", "the files for other systems are those that were built here"),
+    ("sed -i '/exe/d' ../RELEASES", "dist/RELEASES lists the programs for other systems")])
 def test_wrong(stored, command, why):
     """After the command in the folder of the stored program this test fails."""
     sh(stored, f"cd $stored; {command}")

@@ -82,11 +82,21 @@ def test_reach():
     assert "ctypes" in modules and not [it for it in modules if it.startswith(networks)]
 
 
+OTHERS = ("aarch64-linux/balisecheck", "aarch64-linux/libbalisecheck.so.0", "x86_64-windows/balisecheck.exe",
+          "x86_64-windows/balisecheck.dll", "x86_64-windows/balisecheck.lib", "wasm64/balisecheck.mjs")
+
+
 @pytest.fixture(scope="module", name="document")
-def a_document():
-    """The SPDX document of this tree."""
-    known = {**os.environ, "SOURCE_DATE_EPOCH": "1700000000"}
-    ran = [run((TOP,), path=TOP / "dist/pack/spdx.py", env=known) for _ in range(2)]
+def a_document(tmp_path_factory):
+    """The SPDX document of this tree, if ABOUT also lists these files for other systems."""
+    tree, known = tmp_path_factory.mktemp("tree"), {**os.environ, "SOURCE_DATE_EPOCH": "1700000000"}
+    for name in ("THIRD-PARTY.md", "companion"):
+        (tree / name).symlink_to(TOP / name)
+    (tree / "dist/x86_64-linux").mkdir(parents=True)
+    about = re.sub("(?m)^.*/.*\n", "", (STORED / "ABOUT").read_text("utf-8"))
+    lines = "".join(f"{name} {sha256(name.encode()).hexdigest()}\n" for name in OTHERS)
+    (tree / "dist/x86_64-linux/ABOUT").write_text(about + lines, "utf-8")
+    ran = [run((tree,), path=TOP / "dist/pack/spdx.py", env=known) for _ in range(2)]
     assert ran[0].status == 0 and ran[0] == ran[1]
     return json.loads(ran[0].stdout)
 
@@ -121,20 +131,34 @@ def test_components(document):
     """The document has program, library, balisekit, all libraries of the page, and what balisekit can use."""
     packages = {it["name"]: it for it in document["packages"]}
     python = {name for name in SPDX["PYTHON"] if re.search(rf"\b{name}\b", PAGE)}
-    files = {"balisecheck", "libbalisecheck.a", "libbalisecheck.so.0"}
-    assert {*packages} == {*files, "balisekit", *(row["name"] for row in ROWS), *python}
+    files, others = {"balisecheck", "libbalisecheck.a", "libbalisecheck.so.0"}, {it for it in OTHERS if it[-4:] != ".lib"}
+    assert {*packages} == {*files, *others, "balisekit", *(row["name"] for row in ROWS), *python}
     for name in files:
         assert packages[name]["checksums"][0]["checksumValue"] == sha256((STORED / name).read_bytes()).hexdigest()
     project = (TOP / "companion/pyproject.toml").read_text("utf-8")
     wanted = {*re.findall(r'"(\w+)[>;" ]', "".join(re.findall(r"(?m)^(?:dependencies|xlsx|toml) = (.*)$", project)))}
     assert wanted <= python and "jinja2" in wanted
-    in_program, in_library = ({it["relatedSpdxElement"] for it in document["relationships"] if
-                               (it["spdxElementId"], it["relationshipType"]) == (f"SPDXRef-{name}", "STATIC_LINK")}
-                              for name in ("balisecheck", "libbalisecheck.so.0"))
+    in_program, in_library = (linked(document, name) for name in ("balisecheck", "libbalisecheck.so.0"))
     assert in_program - in_library == {f"SPDXRef-{name}" for name in ("clap", "strsim", "glibc", "gcc")}
     assert in_library < in_program
     crates = {name for row in ROWS if row["version"][0].isdigit() for name in SPDX["CRATES"].get(row["name"], [])}
     assert crates and all(f"`{name.partition('@')[0]}`" in PAGE for name in crates)
+
+
+def linked(document, name, kind="STATIC_LINK"):
+    """What a file has as a part, or loads."""
+    identifier = SPDX["identifier"](name)
+    return {it["relatedSpdxElement"] for it in document["relationships"]
+            if (it["spdxElementId"], it["relationshipType"]) == (identifier, kind)}
+
+
+def test_other_systems(document):
+    """Files for other systems have the parts of the program or of the library, without start-up code of others."""
+    program_parts = linked(document, "balisecheck") - {"SPDXRef-glibc", "SPDXRef-gcc"}
+    for name in OTHERS[:-2] + OTHERS[-1:]:
+        is_program = "/balisecheck" in name and name[-4:] not in (".dll", ".mjs")
+        assert linked(document, name) == (program_parts if is_program else linked(document, "libbalisecheck.so.0"))
+        assert linked(document, name, "DYNAMIC_LINK") == ({"SPDXRef-glibc"} if "aarch64" in name else set())
 
 
 def test_pinned():

@@ -35,6 +35,16 @@ SHELL = r"""
         echo $1 GLIBC_2.4 GLIBC_2.34 >out/libbalisecheck.so.0
         printf '%s\n' "sources $(dist/sources)" "archive $(sum out/libbalisecheck.a)" \
             "library $(sum out/libbalisecheck.so.0)" >out/LIBRARY
+        targets $1
+    }
+    targets() {
+        echo "sources $(dist/sources)" >out/TARGETS
+        for it in aarch64-linux/{balisecheck,libbalisecheck.{a,so.0}} wasm64/{balisecheck.{d.mts,mjs},package.json} \
+            x86_64-windows/balisecheck.{dll,exe,lib}; do
+            mkdir -p out/targets/${it%/*}
+            echo $1 $it >out/targets/$it
+            echo "$it $(sum out/targets/$it)" >>out/TARGETS
+        done
     }
     save() { git add -A; git commit -q -m one; }
 """

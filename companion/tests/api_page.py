@@ -38,8 +38,8 @@ SECTIONS = (
 SHOWN = {
     "Program": ("find()", "path", "sha256"),
     "Library": (
-        *("find()", "path", "version", "check()", "decode()", "decode_radio()", "encode()", "encode_radio()"),
-        *("telegram()", "message()"),
+        *("find()", "path", "version", "check()", "findings()", "decode()", "decode_radio()", "encode()"),
+        *("encode_radio()", "telegram()", "message()"),
     ),
     "Call": ("status", "text", "fault"),
     "Table": ("path", "sha256"),

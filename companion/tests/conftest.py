@@ -9,7 +9,7 @@ import tempfile
 from datetime import datetime, timezone
 from importlib.util import find_spec
 from pathlib import Path
-from typing import Callable, Iterator, List, Sequence, Tuple
+from typing import Any, Callable, Iterator, List, Optional, Sequence, Tuple
 
 import pytest
 from cases_of_program import TOP
@@ -18,7 +18,9 @@ from installed import environment
 
 from balisekit.cli import main as cli
 from balisekit.engine import find_program
-from balisekit.engine.program import Program
+from balisekit.engine.library import opened
+from balisekit.engine.loaded_library import LoadedLibrary
+from balisekit.engine.program import Program, pieces
 from balisekit.io import clock
 from balisekit.present.opening import program_words
 
@@ -96,7 +98,39 @@ def known() -> Iterator[None]:
         patch.setattr(find_program, "checksum", lambda other: sha256 if other == path else checksum(other))
         patch.setattr(find_program, "built_here", lambda other: other == sha256)
         patch.setattr(Program, "_shake_hands", lambda self: None if self.path == path else greet(self))
+        library = library_under_test(sha256)
+        if library:
+            _compare(library, path, patch)
         yield
+
+
+def library_under_test(sha256: str) -> Optional[LoadedLibrary]:
+    """The library of this program: the one that was built with it, or stored with it. None if it is not here."""
+    folder = Path(os.environ.get("BALISECHECK_LIBRARY") or TOP / "dist" / "x86_64-linux")
+    path, about = folder / find_program.LIBRARY, find_program.papers(sha256)
+    if opened(str(path)) is None or not (about or "BALISECHECK_LIBRARY" in os.environ):
+        return None
+    return LoadedLibrary(str(path), find_program.checksum(str(path)), about, None, find_program.ABOUT)
+
+
+def _compare(library: LoadedLibrary, path: str, patch: pytest.MonkeyPatch) -> None:
+    """Whatever the program under test answers in a test of this process, the library has to answer too."""
+    check, answers = Program.check, Program._answers
+
+    def check_both(self: Program, document: Any) -> Any:
+        content = document if isinstance(document, (str, bytes, dict)) else b"".join(pieces(document))
+        answer = check(self, content)
+        assert self.path != path or library.check(content) == answer
+        return answer
+
+    def answers_both(self: Program, words: Sequence[str], lines: Sequence[bytes]) -> Iterator[Any]:
+        others = library._answers(words, lines) if self.path == path else None
+        for answer in answers(self, words, lines):
+            assert others is None or next(others) == answer
+            yield answer
+
+    patch.setattr(Program, "check", check_both)
+    patch.setattr(Program, "_answers", answers_both)
 
 
 def set_day(monkeypatch: pytest.MonkeyPatch, seconds: int) -> None:
@@ -108,7 +142,7 @@ def set_day(monkeypatch: pytest.MonkeyPatch, seconds: int) -> None:
 
 def without_program(text: str) -> str:
     """An answer without version and checksum of the program: stored answers need not be of the program under test."""
-    return re.sub("(?m)^balisecheck( [0-9.]+)?, SHA-256 [0-9a-f]{64}: .+$", "balisecheck", text)
+    return re.sub("(?m)^(?:lib)?balisecheck( [0-9.]+)?, SHA-256 [0-9a-f]{64}: .+$", "balisecheck", text)
 
 
 @pytest.fixture

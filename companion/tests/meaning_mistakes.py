@@ -23,6 +23,11 @@ def session(q_rbc: int = 1) -> Any:
     return raw(42, f"{q_rbc}{352:010b}{1:014b}{'1' * 64}0")
 
 
+def on_sight(begin: int, speed: int = 40, length: int = 1500) -> Any:
+    """A packet 80 in metres and km/h."""
+    return raw(80, f"01{begin:015b}00{speed // 5:07b}{length:015b}{0:015b}0{0:05b}")
+
+
 def announcement_by_radio() -> Any:
     """A packet 131: an order to change the radio block centre in 1,000 m."""
     return raw(131, f"01{1000:015b}{352:010b}{2:014b}{'1' * 64}0")
@@ -142,6 +147,9 @@ MISTAKES: Dict[str, Mistake] = {
     "E21": Mistake(LEVEL_2, with_packet("Signal 1", FIXED, session(0))),
     "E22": Mistake(SHORT, all_of(RESTRICTED, with_packet("Signal 4", FIXED, restriction(7, 100, 500, 40)))),
     "E23": Mistake(SHORT, lambda rows: form_of(rows, "Signal 4", FIXED).update(m_version=32)),
+    "E24": Mistake(SHORT, lambda rows: form_of(rows, "Signal 3", RED)["packets"].clear()),
+    "E25": Mistake(SHORT, lambda rows: change(rows, "Signal 3", GREEN, 12)["overlap"].update(d_ol=150)),
+    "E26": Mistake(SHORT, with_packet("Signal 3", YELLOW, on_sight(1600))),
 }
 """A realistic mistake for each rule."""
 

@@ -11,10 +11,12 @@ from typing import Any, Dict, Iterator, List, NamedTuple, Optional, Set, Tuple
 HEXADECIMAL = frozenset("0123456789abcdefABCDEF")
 QUOTES = "\"'‘’“”„«»"
 ZERO_WIDTH = "\u200b"
+LARGE = "[0-9][eE][+]?[0-9]*[1-9][0-9]"
 LEAST = 40
 """The fewest characters of a telegram."""
-CHECKSUMS = (40, 64, 96, 128)
+CHECKSUMS = (32, 40, 64, 96, 128)
 """How many digits usual checksums have."""
+UUID = r"\b[0-9a-fA-F]{8}-[0-9a-fA-F]{4}-[0-9a-fA-F]{4}-[0-9a-fA-F]{4}-[0-9a-fA-F]{12}\b"
 LINE_ENDS = frozenset("\n\r\v\f\x1c\x1d\x1e\x85\u2028\u2029")
 
 
@@ -53,8 +55,22 @@ def bare(text: str) -> str:
 
 
 def is_telegram(text: str) -> bool:
-    """Whether a cell has at least 40 characters of which nine of ten are hexadecimal digits, perhaps in groups."""
-    return are_digits(bare(text)) or is_in_groups(groups_of(text))
+    """Whether a cell has at least 40 characters of which nine of ten are hexadecimal digits, and is no number list.
+
+    A UUID, and up to four checksums of one length, are dropped from it.
+    """
+    own = without_checksums(re.sub(UUID, "", text)).strip()
+    has_letter = any(each.lower() in "abcdef" for each in bare(own))
+    return are_digits(bare(own)) and (has_letter or own.isdecimal())
+
+
+def without_checksums(text: str) -> str:
+    """The text without words that have as many digits as checksums have, unless five have the same length."""
+    words = re.findall(r"[^\W_]+", text)
+    sums = [word for word in words if HEXADECIMAL.issuperset(word) and len(word) in CHECKSUMS]
+    if any(sum(len(each) == len(word) for each in sums) > 4 for word in sums):
+        return text
+    return "".join("" if part in sums else part for part in re.split(r"([^\W_]+)", text))
 
 
 def are_digits(text: str) -> bool:
@@ -62,11 +78,26 @@ def are_digits(text: str) -> bool:
     return len(text) >= LEAST and 10 * sum(each in HEXADECIMAL for each in text) >= 9 * len(text)
 
 
+def could_hold(text: str) -> bool:
+    """Whether a text has a run of 13 digits with a letter, or groups with 40 digits, of which four are letters.
+
+    A single digit counts as two, and a number counts if a group of its length has a letter.
+    """
+    rest = without_checksums(re.sub(UUID, "", unicodedata.normalize("NFKC", text)))
+    runs = "".join(each if each in HEXADECIMAL else " " for each in re.sub("0[xX]", " ", rest)).split()
+    if any(len(run) >= 13 and not run.isdecimal() for run in runs):
+        return True
+    groups = [group.rjust(2, "0") for group in groups_of(rest)]
+    lengths = {len(group) for group in groups if not group.isdecimal()}
+    digits = "".join(group for group in groups if len(group) in lengths)
+    return len(digits) >= LEAST and sum(each.isalpha() for each in digits) >= 4
+
+
 def groups_of(text: str) -> List[str]:
-    """What is between characters that are neither letters nor digits, without 0x, x, h and the like."""
-    plain = unicodedata.normalize("NFKC", text).replace("0x", " ").replace("0X", " ")
+    """The hexadecimal digits between characters that are neither letters nor digits, without 0x, x, h and the like."""
+    plain = text.replace("0x", " ").replace("0X", " ")
     groups = "".join(each if each.isalnum() else " " for each in plain).split()
-    return list(filter(None, map(unmarked, groups)))
+    return [group for group in map(unmarked, groups) if group and HEXADECIMAL.issuperset(group)]
 
 
 def unmarked(group: str) -> str:
@@ -77,36 +108,6 @@ def unmarked(group: str) -> str:
         if f"{before}{digits}{after}" == small and HEXADECIMAL.issuperset(digits):
             return digits
     return group
-
-
-def is_in_groups(groups: List[str]) -> bool:
-    """Whether they are one telegram: it has more letters than lists of numbers and names have."""
-    text = "".join(groups).lower()
-    letters = sum(each in "abcdef" for each in text)
-    if not are_digits(text) or all(map(is_name, groups)):
-        return False
-    size = max((len(group) for group in groups), key=lambda size: sum(len(each) == size for each in groups))
-    in_size = sum(len(group) for group in groups if len(group) == size)
-    return letters * (10 if 10 * in_size >= 9 * len(text) else 3) >= len(text)
-
-
-def is_name(group: str) -> bool:
-    """Whether it has letters at one end, and other digits."""
-    if group[:1].isalpha():
-        return group.lstrip("abcdefABCDEF").isdigit()
-    return group[:-1].isdigit() and group[-1].isalpha()
-
-
-def how_many(text: str) -> int:
-    """How many telegrams a cell has: those between commas, semicolons, bars, tabs and line ends, or the whole of it.
-
-    If it looks like none, there may be some among words. A number of at least 40 digits counts too: a spreadsheet may
-    have shortened a telegram to it.
-    """
-    if re.fullmatch("[0-9]+[.,][0-9]+[eE][0-9]{2,3}|[0-9.,]+[eE][+][0-9]{2,3}", text.strip()):
-        return int(Decimal(text.strip().replace(",", ".")) >= 10**39)
-    parts = re.split("[,;|\t\r\n\v\f\x1c-\x1e\x85\u2028\u2029]", text)
-    return sum(map(is_telegram, parts)) or int(is_telegram(text)) or sum(map(_is_among_words, parts))
 
 
 def cells_of_csv(content: bytes, encoding: str, separator: str) -> Cells:
@@ -151,13 +152,27 @@ def _text(value: object) -> str:
 
 
 def telegrams(cells: Cells, known: Known) -> Set[Place]:
-    """The cells that are telegrams by their text, or in the column of telegrams of a row that is read.
-
-    In other sheets they may be among words, in a cell with line ends.
-    """
-    by_text = {place for place, text in cells.items() if how_many(text)}
-    by_text |= {place for place in swallowed(cells) if place.sheet != known.sheet}
+    """The cells that are telegrams by their text, or in the column of telegrams of a row that is read."""
+    by_text = {place for place, text in cells.items() if is_telegram(text)}
     return by_text | {Place(known.sheet, row, known.column) for row in rows_read(cells, known)}
+
+
+def possible(cells: Cells, known: Known, joined: Set[int]) -> Set[Tuple[Optional[str], int]]:
+    """The sheets and rows that could hold a telegram in cells that are none.
+
+    Cells by themselves can hold one, and together those of a row of another sheet, or in these columns of the table.
+    """
+    rows: Dict[Tuple[Optional[str], int], List[str]] = {}
+    found = set()
+    for place, text in cells.items():
+        is_own = place.sheet == known.sheet
+        if is_telegram(text) or is_own and (place.row <= known.heading or place.column == known.column):
+            continue
+        if could_hold(text) or re.search(LARGE, text):
+            found.add((place.sheet, place.row))
+        if not is_own or place.column in joined:
+            rows.setdefault((place.sheet, place.row), []).append(text)
+    return found | {row for row, texts in rows.items() if could_hold(" ".join(texts))}
 
 
 def rows_read(cells: Cells, known: Known) -> List[int]:
@@ -171,35 +186,6 @@ def rows_read(cells: Cells, known: Known) -> List[int]:
 
 
 def swallowed(cells: Cells) -> Set[Place]:
-    """The cells that contain line ends and, beside other things, telegrams: rows that a quote has swallowed."""
+    """The cells that contain line ends and could hold telegrams: rows that a quote has swallowed."""
     with_ends = ((place, text) for place, text in cells.items() if not LINE_ENDS.isdisjoint(text))
-    return {
-        place
-        for place, text in with_ends
-        if any(map(_has_telegram, text.replace(",", ";").split(";"))) or _has_groups(text)
-    }
-
-
-def _is_among_words(text: str) -> bool:
-    """Whether neighbours among its groups have hexadecimal digits only, and are a telegram."""
-    stretches: List[List[str]] = [[]]
-    for group in groups_of(text):
-        if HEXADECIMAL.issuperset(group) and len(group) not in CHECKSUMS:
-            stretches[-1].append(group)
-        elif len(group) not in CHECKSUMS:
-            stretches.append([])
-    return any(map(is_in_groups, filter(None, stretches)))
-
-
-def _has_groups(text: str) -> bool:
-    """Whether neighbours among its groups have one length, and are a telegram."""
-    groups = groups_of(text)
-    starts = [at for at, group in enumerate(groups) if at == 0 or len(groups[at - 1]) != len(group)]
-    return any(is_in_groups(groups[start:end]) for start, end in zip(starts, [*starts[1:], len(groups)]))
-
-
-def _has_telegram(text: str) -> bool:
-    """Whether 36 of 40 letters and digits in a row are hexadecimal, whatever is between them."""
-    letters = [each for each in text if each.isalnum()]
-    parts = (letters[begin : begin + LEAST] for begin in range(len(letters) - LEAST + 1))
-    return any(sum(each in HEXADECIMAL for each in part) >= 36 for part in parts)
+    return {place for place, text in with_ends if is_telegram(text) or could_hold(text)}

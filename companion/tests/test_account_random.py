@@ -13,7 +13,7 @@ from typing import Any, Callable, Dict, Iterator, List, NamedTuple, Optional, Se
 
 import pytest
 from conftest import Run
-from plain_count import Place, how_many, is_telegram, rows_read, swallowed, telegrams, unknown_formulas
+from plain_count import Place, is_telegram, possible, rows_read, swallowed, telegrams, unknown_formulas
 from random_tables import FEATURES, Made, made
 
 from balisekit.rules import checking
@@ -82,21 +82,17 @@ class Compared:
         yield from self._line()
         yield from self._status()
         yield from self._places()
+        yield from self._possible()
         yield from self._formulas()
         yield from self._inputs()
         yield from self._messages()
 
     def _counts(self) -> Iterator[str]:
-        account, counted = self.account, self._count(self.found)
+        account, counted = self.account, len(self.found)
         if account["telegrams"] != counted:
             yield f"{account['telegrams']} telegrams, and the file has {counted}"
         if account["telegrams"] != named_of(account):
             yield f"{account['telegrams']} telegrams, of which {named_of(account)} are named"
-
-    def _count(self, places: Set[Place]) -> int:
-        """How many telegrams these cells have: one in each cell of a row that is read, in the column of telegrams."""
-        read = {Place(self.known.sheet, row, self.known.column) for row in self.rows}
-        return sum(1 if place in read else how_many(self.cells[place]) for place in places)
 
     def _judged(self) -> Iterator[str]:
         """The telegrams of the groups that were handed to the program are judged, unless --only lacks F."""
@@ -127,17 +123,16 @@ class Compared:
         )
         if self.answer.status != 2 and is_open:
             yield f"status {self.answer.status}: {accounts}"
-        hidden = {place for place in swallowed(self.cells) - self.found if place.sheet == self.known.sheet}
-        if self.answer.status != 2 and hidden:
-            yield f"status {self.answer.status} with telegrams in cells with line ends: {sorted(hidden)}"
+        if not self.table.sheets and {place for place in swallowed(self.cells) if place.column != self.known.column}:
+            yield f"status {self.answer.status} with telegrams in cells with line ends"
 
     def _places(self) -> Iterator[str]:
         """Each telegram is in a row that is read, or in one part."""
         of_rows = {Place(self.known.sheet, row, self.known.column) for row in self.rows}
         rest, left = self.found - of_rows, of_rows
-        for part in (part for part in self.parts if "formulas" not in part):
+        for part in (part for part in self.parts if part["telegrams"]):
             places = self._of_part(part, self.found)
-            if self._count(places) != part["telegrams"] or not places <= rest | left:
+            if len(places) != part["telegrams"] or not places <= rest | left:
                 yield f"it means the telegrams {sorted(places)}: {part}"
             rest, left = rest - places, left - places
             if part["asked"] != self._is_asked(part):
@@ -146,6 +141,20 @@ class Compared:
             yield f"in no part: {sorted(rest)}"
         if len(left) != self.account["judged"] + self.account["refused"]:
             yield f"{len(left)} telegrams of the rows that are read are in no part: {self.account}"
+
+    def _possible(self) -> Iterator[str]:
+        """Each row that could hold a telegram in what is not read is in a part, and no other row is."""
+        words, unread = self.table.words, self.account["columns_not_read"]
+        skipped = {second for first, second in zip(words, words[1:]) if first == "--skip-column"}
+        joined = set().union(*(self._columns(name) for name in unread if name not in skipped))
+        parts = [part for part in self.parts if "possible" in part]
+        rows = {(part["sheet"], row) for part in parts for row in part["rows"]}
+        wanted = possible(self.cells, self.known, joined)
+        if rows != wanted:
+            yield f"rows that could hold a telegram: {sorted(wanted, key=str)}, and named are {sorted(rows, key=str)}"
+        for part in parts:
+            if part["telegrams"] or part["possible"] != len(part["rows"]) or part["asked"] != self._is_asked(part):
+                yield f"it could hold telegrams, and the part is {part}"
 
     def _formulas(self) -> Iterator[str]:
         """Each formula whose value is not stored is in one part."""
@@ -260,7 +269,7 @@ def test_features() -> None:
     assert {feature for seed in range(200) for feature in made(seed).features} == FEATURES
 
 
-DIGITS = "a1007f80" * 5
+DIGITS = "a1007f80" * 5 + "1"
 
 
 @pytest.mark.parametrize(
@@ -273,8 +282,8 @@ DIGITS = "a1007f80" * 5
         (f" “0x{DIGITS}H” ", True),
         (" ".join(DIGITS), True),
         ("-".join(DIGITS[at : at + 2] for at in range(0, 40, 2)), True),
-        ("-".join(DIGITS[at : at + 4] for at in range(0, 40, 4)), True),
-        (", ".join(f"'0x{DIGITS[at : at + 2]}'" for at in range(0, 40, 2)), True),
+        ("a" * 40, False),
+        (f"{DIGITS} {DIGITS}z", True),
         (".".join(["0000", "1234"] * 5), False),
         (", ".join(f"B{number}" for number in range(100, 120)), False),
         (f"{DIGITS[:20]}\n{DIGITS[20:]}", True),

@@ -112,5 +112,6 @@ def test_the_packages_of_the_tests() -> None:
         packages |= {f"python3-{name}" for name in re.findall(r'importorskip\("(\w+)"\)', text)}
         packages |= set(re.findall(r'(?:skip\(|reason ?= ?)"[^"\n]*\(([\w-]+)\)"', text))
     packages -= {"chromium", "toolchain"}
-    listed = (TOP / "tests" / "packages.sh").read_text("utf-8").split("\npackages='")[1].split("'")[0]
+    text = (TOP / "tests" / "packages.sh").read_text("utf-8")
+    listed = " ".join(re.findall(r"(?m)^(?:packages|systems)='([^']*)'", text))
     assert {"mypy", "python3-jinja2"} <= packages and packages <= {word.split("=")[0] for word in listed.split()}

@@ -1,4 +1,4 @@
-"""The rules E12 to E23: whether groups agree about one line, by its kilometres."""
+"""The rules E12 to E25, but for E24: whether groups agree about one line, by its kilometres."""
 from __future__ import annotations
 
 import copy
@@ -23,6 +23,7 @@ from meaning_mistakes import (
     announcement_by_radio,
     authority,
     form_of,
+    on_sight,
     restriction,
     session,
     set_in,
@@ -856,6 +857,48 @@ def test_e19(found: Found) -> None:
     assert down and all(each.urgency is Urgency.RULE_ONLY and each.sentence.endswith("both go down") for each in down)
 
 
+def test_e13_of_q_front(found: Found) -> None:
+    """The speed rises at km 12.950, by yellow and green of signal 2, and by green of signal 1."""
+
+    def front(signal: str, aspect: str) -> Change:
+        def change_(rows: List[Row]) -> None:
+            elements = change(rows, signal, aspect, 27)["elements"]
+            speeds = [each["v_static"] for each in elements]
+            elements[speeds.index(20)]["q_front"] = 1
+
+        return change_
+
+    (one,) = found("E13", SHORT, front("Signal 2", GREEN))
+    assert one.sentence == (
+        "at km 12.950, where V_STATIC rises from 100 km/h to 140 km/h, Q_FRONT is 1 (holds until the front has passed), "
+        'and 0 by Signal 1 (km 10.000), aspect "green", row 5'
+    )
+    assert one.location.row and one.location.row.aspect == GREEN
+    everywhere = [front("Signal 1", GREEN), front("Signal 2", YELLOW), front("Signal 2", GREEN)]
+    assert not found("E13", SHORT, all_of(*everywhere))
+
+
+def test_e26(found: Found) -> None:
+    """What no train can follow, each by itself, and a mode that begins at the end of authority."""
+    for packet_, words in (
+        (on_sight(1600), "D_MAMODE 1600 m is beyond the end of authority, 1500 m from the group"),
+        (on_sight(0, 200), "V_MAMODE of the first mode is 200 km/h [40] on sight"),
+        (on_sight(0, 40, 0), "L_MAMODE of the first mode is 0 m"),
+    ):
+        (one,) = found("E26", SHORT, with_packet("Signal 3", YELLOW, packet_))
+        assert one.sentence == words and one.location.row and one.location.row.aspect == YELLOW
+    (one,) = found("E26", SHORT, with_packet("Signal 3", FIXED, on_sight(1000)))
+    assert one.sentence == "D_MAMODE 1000 m is beyond the end of authority, 0 m from the group"  # (at red)
+    for packet_ in (on_sight(1500), on_sight(0, 100), on_sight(0, 635)):
+        assert not found("E26", SHORT, with_packet("Signal 3", YELLOW, packet_))
+
+    def without_authority(rows: List[Row]) -> None:
+        form_of(rows, "Signal 3", YELLOW)["packets"] = [on_sight(0)]
+
+    (one,) = found("E26", SHORT, without_authority)
+    assert one.sentence == "its message has no packet 12 or 15"
+
+
 def test_e19_passes_over_stretches_without_length(found: Found) -> None:
     def empty(rows: List[Row]) -> None:
         meaning_mistakes.reverse_gradients_turned(rows)
@@ -871,7 +914,7 @@ def test_e19_passes_over_an_element_without_length(found: Found) -> None:
 
 
 def test_e20(found: Found) -> None:
-    """Only the part about one packet is on by default."""
+    """A value that other links of the table have too is only compared if the rule is asked for."""
     for group, words in ((5, "as its first link does"), (4, "which sends it")):
         (one,) = found("E20", SHORT, set_in_item("Signal 4", FIXED, 5, "links", 1, nid_bg=group), Options())
         assert words in one.sentence and one.values["nid_bg"] == group
@@ -880,7 +923,12 @@ def test_e20(found: Found) -> None:
         (one,) = found("E20", SHORT, changed)
         usual = {"q_locacc": 5, "q_linkreaction": 1}[key]
         assert one.values == {key: Decimal(value), f"other_{key}": Decimal(usual)}
-        assert not found("E20", SHORT, changed, Options())
+        assert [each.sentence for each in found("E20", SHORT, changed, Options())] == [one.sentence]
+        other = set_in_item("Signal 1", FIXED, 5, "links", 1, **{key: value})
+        assert not found("E20", SHORT, all_of(changed, other), Options())
+        assert len(found("E20", SHORT, all_of(changed, other))) == 2
+        few = Line(signals=5)
+        assert not found("E20", few, changed, Options()) and found("E20", few, changed)
 
 
 def test_e21(found: Found) -> None:
@@ -1047,3 +1095,42 @@ def test_what_is_passed_over_is_not_counted(found: Found) -> None:
     assert counts[0] == counts[1] > counts[2] == 0
     counts = [found.result("E18", BORDER, each).looked_at for each in (unchanged, to_track_2)]
     assert counts == [3, 3], "a border more, and an announcement less"
+
+
+def test_e25(found: Found) -> None:
+    """Green of signal 3 and yellow of signal 4 end at signal 5. Danger points and overlaps are of that signal."""
+
+    def overlap(group: str, aspect: str, **values: int) -> Change:
+        return lambda rows: change(rows, group, aspect, 12)["overlap"].update(values)
+
+    def without_overlap(rows: List[Row]) -> None:
+        del change(rows, "Signal 3", GREEN, 12)["overlap"]
+
+    danger = {"danger_point": {"d_dp": 50, "v_releasedp": 126}}
+    cases: List[Tuple[List[Change], str]] = [
+        ([overlap("Signal 3", GREEN, d_ol=150, v_releaseol=6)], "D_OL is 150 m, and 200 m by Signal 4 (km 14.500)"),
+        ([overlap("Signal 3", GREEN, v_releaseol=6)], "V_RELEASEOL is 30 km/h, and calculated on board by Signal 4"),
+        ([without_overlap], "D_OL is absent, and 200 m by Signal 4"),
+        ([set_in("Signal 3", GREEN, 12, end_speed=28)], "V_LOA is 140 km/h, and 0 km/h, stop by Signal 4"),
+        ([set_in("Signal 3", GREEN, 12, **danger)], "D_DP is 50 m, and absent by Signal 4"),
+    ]
+    for changes, words in cases:
+        (one,) = found("E25", SHORT, all_of(*changes))
+        assert words in one.sentence and one.sentence.endswith(", whose authority ends there too")
+        assert one.location.row and one.location.row.aspect == GREEN and one.others == [16]
+    assert not found("E25", SHORT, overlap("Signal 3", GREEN, d_ol=201))
+    elsewhere = [set_in("Signal 3", GREEN, 12, **danger), set_in("Signal 4", YELLOW, 12, **danger)]
+    assert not found("E25", SHORT, all_of(*elsewhere))
+    assert not found("E25", SHORT, all_of(without_overlap, with_packet("Signal 3", GREEN, on_sight(0))))
+
+
+def test_e25_of_overlaps_that_depend_on_the_aspect(found: Found) -> None:
+    """If a group has two aspects with other overlaps for one end, a third one is not compared."""
+
+    def as_far(rows: List[Row]) -> None:
+        yellow, green = (change(rows, "Signal 4", aspect, 12) for aspect in (YELLOW, GREEN))
+        green.update(l_endsection=yellow["l_endsection"])
+        green["overlap"].update(d_ol=100)
+
+    short = [as_far, lambda rows: change(rows, "Signal 3", GREEN, 12)["overlap"].update(d_ol=150)]
+    assert not found("E25", SHORT, all_of(*short))

@@ -1,4 +1,4 @@
-"""The rules E8 to E10: aspects of one group compared with each other, and with those of the table."""
+"""The rules E7 to E10 and E24: aspects compared with those of their group, and with those of the table."""
 from __future__ import annotations
 
 from dataclasses import replace
@@ -390,3 +390,77 @@ def test_e10_beyond_a_point(program: Program, tmp_path: Path) -> None:
 def test_e10_of_one_wrong_aspect_is_one_remark(program: Program, tmp_path: Path) -> None:
     (one,) = found(program, tmp_path / "t.csv", "E10", element_with(2, GREEN, 27, 0, v_static=60), line=FOUR)
     assert one.aspects[0] == GREEN and len(one.aspects) >= 3 and "V_STATIC 300 km/h [60]" in one.sentence
+
+
+def overlap_of(signal: int, aspect: str, **values: int) -> Change:
+    """Sets values in the overlap of an aspect."""
+    return lambda rows: change(rows, f"Signal {signal}", aspect, 12)["overlap"].update(values)
+
+
+def test_e24_of_packets(program: Program, tmp_path: Path) -> None:
+    """An aspect without packets, without packet 12, without the profiles of a stop aspect. Two of six are too many."""
+    lacks = (
+        'the aspect "{}" is unlike "{}" at other signals: it lacks {} in nominal direction, which 5 other signals have'
+    )
+    for changes, aspect, packets in (
+        ([without(3, RED, 12, 21, 27)], RED, f"packets 12 (movement authority of level 1), {PROFILES}"),
+        ([without(3, YELLOW, 12)], YELLOW, "packet 12 (movement authority of level 1)"),
+        ([without(3, RED, 27)], RED, "packet 27 (international static speed profile)"),
+        (
+            [packets_added(signal, GREEN, raw(137, "1")) for signal in (1, 2, 3, 4, 6)],
+            GREEN,
+            "packet 137 (stop if in staff responsible)",
+        ),
+    ):
+        (one,) = found(program, tmp_path / "t.csv", "E24", *changes)
+        assert one.sentence == lacks.format(aspect, aspect, packets)
+    assert not found(program, tmp_path / "t.csv", "E24", without(3, RED, 12), without(4, RED, 12))
+    assert not found(program, tmp_path / "t.csv", "E24", without(3, GREEN, 27))  # (a finding of the program)
+    assert not found(program, tmp_path / "t.csv", "E24", turned(3, GREEN))  # (a remark of E8)
+    four = Line(signals=4)
+    assert not found(program, tmp_path / "t.csv", "E24", without(3, RED, 12), line=four)
+
+
+@pytest.mark.parametrize(
+    "key, value, words", [("t_ol", 30, "T_OL is 30 s, and 60 s"), ("d_startol", 0, "D_STARTOL is 0 m")]
+)
+def test_e24_of_values(program: Program, tmp_path: Path, key: str, value: int, words: str) -> None:
+    """One signal has another value. It may, with a D_OL of its own, or if two signals have it."""
+    own = overlap_of(3, GREEN, **{key: value})
+    (one,) = found(program, tmp_path / "t.csv", "E24", own)
+    assert words in one.sentence and one.sentence.endswith(" at all 5 other signals with it")
+    assert one.rows == (row_of(3, GREEN),) and one.values[key] == value
+    assert not found(program, tmp_path / "t.csv", "E24", own, overlap_of(3, GREEN, d_ol=150))
+    assert not found(program, tmp_path / "t.csv", "E24", own, overlap_of(4, YELLOW, **{key: value}))
+
+
+def test_e24_of_speeds(program: Program, tmp_path: Path) -> None:
+    """V_MAIN is the greatest V_STATIC at all other signals, or one speed. A signal may have a speed of its own."""
+    (one,) = found(program, tmp_path / "t.csv", "E24", packet_with(3, GREEN, 12, v_main=40))
+    assert "V_MAIN is 200 km/h [40] and the greatest V_STATIC" in one.sentence
+    low = packet_with(3, GREEN, 12, v_main=10)
+    assert len(found(program, tmp_path / "t.csv", "E24", low)) == 1
+    assert not found(program, tmp_path / "t.csv", "E24", low, packet_with(3, YELLOW, 12, v_main=10))
+    caution = [packet_with(signal, YELLOW, 12, v_main=8) for signal in (1, 2, 4, 5, 6)]
+    (one,) = found(program, tmp_path / "t.csv", "E24", *caution)
+    assert "V_MAIN is 140 km/h [28], and 40 km/h [8] at all 5 other signals" in one.sentence
+
+
+def test_e24_of_stop_and_go(program: Program, tmp_path: Path) -> None:
+    """One signal lets trains pass at danger, or stops them at green. Two signals may do so."""
+    path = tmp_path / "t.csv"
+
+    def orders(aspect: str, number: int, bits: str) -> List[Change]:
+        return [packets_added(signal, aspect, raw(number, bit)) for signal, bit in enumerate(bits, 1)]
+
+    for number, name in ((137, "Q_SRSTOP"), (132, "Q_ASPECT")):
+        (one,) = found(program, path, "E24", *orders(RED, number, "01"))
+        assert one.sentence.startswith(f'the aspect "red" is unlike "red" at other signals: {name} is go if in ')
+        assert one.sentence.endswith(" at 1 other signal with it") and "V_MAIN is 0 km/h [0]" in one.sentence
+        assert one.rows == (row_of(2, RED),)
+        assert not found(program, path, "E24", *orders(RED, number, "011"))
+    (one,) = found(program, path, "E24", *orders(GREEN, 137, "10"))
+    assert one.rows == (row_of(2, GREEN),) and "Q_SRSTOP is stop if in SR mode, although V_MAIN is " in one.sentence
+    assert not found(program, path, "E24", *orders(GREEN, 132, "10"))
+    (one,) = found(program, path, "E24", *orders(RED, 137, "00001"), without(5, RED, 12))
+    assert "lacks packet 12" in one.sentence and "Q_SRSTOP" not in one.sentence

@@ -286,7 +286,7 @@ def test_findings_of_one_cause_are_one_entry(tmp_path: Path) -> None:
     _, page = _report(table, tmp_path / "r.html", "--accepted", str(_accepted(tmp_path / "a.csv", *some)))
     still_open, accepted = _between(page, PROGRAM, RULES), _between(page, ACCEPTED, PAPERS)
     assert (still_open.count("position wrong</span>"), accepted.count("position wrong</span>")) == (2, 4)
-    assert still_open.count("look exchanged") == accepted.count("look exchanged") == 1
+    assert (still_open.count("look exchanged"), accepted.count("look exchanged")) == (2, 1)
 
 
 def test_a_yes_and_an_empty_refusal(tmp_path: Path) -> None:

@@ -1,6 +1,6 @@
 #!/usr/bin/env python3
-"""Writes the SPDX 2.3 document of the release in the folder TREE: both programs, the library for C, each library that
-THIRD-PARTY.md lists, and the packages that balisekit uses if they are installed.   spdx.py TREE
+"""Writes the SPDX 2.3 document of the release in the folder TREE: both programs, the library for C, the files for other
+systems, each library that THIRD-PARTY.md lists, and the packages that balisekit can use.   spdx.py TREE
 
 SOURCE_DATE_EPOCH is the document's time. Each package has a purl. The purl of a library that follows a published crate
 is that of the crate, so that scanners find what is known about it.
@@ -20,6 +20,8 @@ LICENCE = "MIT OR Apache-2.0"
 RELATIONS = {"functions": "STATIC_LINK", "inlined": "STATIC_LINK", "start-up code": "STATIC_LINK",
              "dynamic": "DYNAMIC_LINK"}
 COLUMNS = "name", "version", "licence", "program", "library"
+# Files for other systems that have no code of others.
+NO_CODE = ".lib", ".d.mts", ".json"
 # The published crates that a library follows, if it is not the one of its name.
 CRATES = {"clap": ["clap_builder", "clap_lex@1.1.1"], "fast_float": ["fast-float2"]}
 # What balisekit needs to make pictures and pages, and what it uses if it is there.
@@ -35,7 +37,7 @@ def listed(page):
 
 def identifier(name):
     """The SPDX identifier of a package."""
-    return f"SPDXRef-{name.replace('_', '-')}"
+    return f"SPDXRef-{re.sub('[_/]', '-', name)}"
 
 
 def package(name, purls, **more):
@@ -52,11 +54,16 @@ def related(one, kind, other):
     return {"spdxElementId": identifier(one), "relationshipType": kind, "relatedSpdxElement": identifier(other)}
 
 
+def is_library(name):
+    """Whether a file is made of the library for C and not of the program."""
+    return not re.search(r"(^|/)balisecheck(\.exe)?$|^balisekit$", name)
+
+
 def product(name, version, about, word=""):
     """The program, a file of the library for C, or balisekit. ABOUT has the checksum of a file by this word."""
     sums = {"checksums": [{"algorithm": "SHA256", "checksumValue": about[word]}]} if word else {}
-    return package(name, [f"generic/{name}@{version}"], versionInfo=version, licenseDeclared=LICENCE, **OWN, **sums,
-                   primaryPackagePurpose="LIBRARY" if name.startswith("lib") else "APPLICATION",
+    return package(name, [f"generic/{name.replace('_', '-')}@{version}"], versionInfo=version, licenseDeclared=LICENCE, **OWN, **sums,
+                   primaryPackagePurpose="LIBRARY" if is_library(name) else "APPLICATION",
                    sourceInfo=f"commit {about['commit']}, SHA-256 of the sources {about['sources']}, {about['kit']}")
 
 
@@ -79,13 +86,20 @@ def linked(row, about):
                    licenseDeclared=row["licence"].replace("none found", NOTHING), primaryPackagePurpose="LIBRARY")
 
 
+def is_used(use, name):
+    """Whether a file uses a library so. No file for another system has start-up code of others, or glibc but on Linux."""
+    system, has_system, _ = name.rpartition("/")
+    elsewhere = {"start-up code", "dynamic"} if system != "aarch64-linux" else {"start-up code"}
+    return use not in {"none", *(elsewhere if has_system else ())}
+
+
 def relations(files, rows):
     """What all packages are to each other, and to the document."""
     yield from (related("DOCUMENT", "DESCRIBES", name) for name in (*files, "balisekit"))
     for name in files:
         for row in rows:
-            uses = row["library" if name.startswith("lib") else "program"].split(", ")
-            yield from (related(name, RELATIONS[use], row["name"]) for use in uses if use != "none")
+            uses = row["library" if is_library(name) else "program"].split(", ")
+            yield from (related(name, RELATIONS[use], row["name"]) for use in uses if is_used(use, name))
     yield related("balisekit", "DEPENDS_ON", "balisecheck")
     yield from (related(name, kind, "balisekit") for name, kind in PYTHON.items())
 
@@ -97,6 +111,7 @@ def document(tree):
     kit = re.search('__version__ = "(.*)"', (tree / "companion/src/balisekit/__init__.py").read_text("utf-8"))[1]
     files = {"balisecheck": "program", "libbalisecheck.a": "archive", "libbalisecheck.so.0": "library"}
     files = {name: word for name, word in files.items() if word in about}
+    files.update({name: name for name in about if "/" in name and not name.endswith(NO_CODE)})
     packages = [*(product(name, about["version"], about, word) for name, word in files.items()),
                 product("balisekit", kit, about), *(linked(row, about) for row in rows),
                 *(package(name, [f"pypi/{name}"], comment="not in the release") for name in PYTHON)]

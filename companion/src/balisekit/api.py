@@ -61,6 +61,8 @@ class Finding(NamedTuple):
     """The line of the file of messages, if it is about a message."""
     program: Tuple[str, ...] = ()
     """The lines of the program, unchanged."""
+    folded: Tuple[Finding, ...] = ()
+    """The findings that are gone if this one is corrected, so that it stands for them."""
 
 
 class Result:
@@ -100,7 +102,7 @@ class Result:
 
     def to_records(self) -> List[Dict[str, Any]]:
         """A dictionary of plain values for each finding: `pandas.DataFrame(result.to_records())` is a table of them. In
-        a record `km` is a float, and `rows`, `values` and `program` are texts."""
+        a record `km` is a float, `rows`, `values` and `program` are texts, and `folded` is a number."""
         return [_record(finding) for finding in self.findings]
 
     @own_context()
@@ -307,6 +309,7 @@ def _finding(outcome: Outcome, entry: Entry) -> Finding:
         accepted=bool(outcome.acceptances(entry)),
         message=entry.message.number if entry.message else None,
         program=tuple(entry.quoted),
+        folded=tuple(_finding(outcome, each) for each in entry.folded),
     )
 
 
@@ -315,7 +318,8 @@ def _record(finding: Finding) -> Dict[str, Any]:
     values = "; ".join(f"{name} {value}" for name, value in finding.values.items())
     rows, program = ", ".join(map(str, finding.rows)), "; ".join(finding.program)
     km = None if finding.km is None else float(finding.km)
-    return {**finding._asdict(), "rows": rows, "km": km, "values": values, "program": program}
+    folded = len(finding.folded)
+    return {**finding._asdict(), "rows": rows, "km": km, "values": values, "program": program, "folded": folded}
 
 
 def _plain(value: object) -> Any:

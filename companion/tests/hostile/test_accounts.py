@@ -180,9 +180,12 @@ def test_a_heading_that_is_not_there(run: Run, table: Write) -> None:
 
 NO_TELEGRAMS = [
     " ".join(f"{12 + number / 8:.3f}" for number in range(10)),
-    ", ".join(f"B{number}" for number in range(101, 112)),
-    ", ".join(f"A-{number}" for number in range(12, 27)),
-    "; ".join(f"{number}a" for number in range(11, 30)),
+    " ".join(str(number) for number in range(10_001, 10_009)),
+    ", ".join(f"B{number}" for number in range(101, 110)),
+    "d41d8cd98f00b204e9800998ecf8427e 9e107d9d372bb6826bd81d3542a419d6 1a2b3c4d",
+    "00:1b:44:11:3a:b7, 00:1b:44:11:3a:b8 and 00:1b:44:11:3a:b9",
+    "97bc4c0976698b7a13531ab778525bb2ff68eb3c91c95f4f887488360abdbe8d",
+    "changement de la direction de voie, plan de pose de balises de 2024",
     "+49 30 1234567 / +49 40 1234567 / +49 89 1234567 / +49 221 123456",
     "030c8000-0000-4b00-8081-e81c501ff805 130c8000-0aa0-4b00-8081-e81c501ff806",
     "12.345 (A), 12.400 (B), 13.500 (C), 13.700 (D), 14.900 (A), 15.300 (B), 15.800 (C)",
@@ -193,41 +196,23 @@ NO_TELEGRAMS = [
 ]
 
 
-HALVES = f"{OTHER[:27]};{OTHER[27:]}"
-PAIRS = ";".join(OTHER[at : at + 2] for at in range(0, len(OTHER), 2))
-HIDDEN = {
-    f"to be replaced by {OTHER} (drawing 12)": 1,
-    f"wrong order, to be replaced by {OTHER[:26]} {OTHER[26:52]} {OTHER[52:]} by J. Doe": 1,
-    f"either {OTHER} as drawn, or {ALONE} as built": 2,
-    "9.02734812345679E53": 1,
-    '="9.02735E+53"': 1,
-    "9.02735E+53 and 9.02736E53": 2,
-    HALVES: 1,
-    PAIRS: 1,
-}
-"""Cells with telegrams among words, as numbers, or in several cells, and how many."""
+NO_BYTES = [
+    ", ".join(f"B{number}" for number in range(101, 112)),
+    "; ".join(f"{number}a" for number in range(11, 30)),
+    "00:1b:44:11:3a:b7 00:1b:44:11:3a:b8 00:1b:44:11:3a:b9 00:1b:44:11:3a:ba",
+]
+"""Texts that have as many hexadecimal digits as a telegram, by chance."""
 
 
-@pytest.mark.parametrize("cells", HIDDEN)
-def test_telegrams_in_cells_that_look_like_none(run: Run, table: Write, cells: str) -> None:
-    """They count in a column and in a sheet that are not read."""
-    texts = cells.split(";")
-    rows = [["group", "telegram", *(f"x{at}" for at in range(len(texts)))], ["A", ALONE, *texts]]
-    out = io.StringIO(newline="")
-    csv.writer(out, delimiter=";").writerows(rows)
-    status, said, _ = run("check", table(content=out.getvalue().encode()), "--only", "F")
-    assert status == 2 and any(f"{1 + HIDDEN[cells]} telegrams in the file; 1 judged" in line for line in said)
-    book = pytest.importorskip("openpyxl").Workbook()
-    for row in rows:
-        book.active.append(row[:2])
-    other = book.create_sheet("other")
-    other.append(["x", *texts])
-    for cell in other[1]:
-        cell.data_type = "s"
-    file = table(content=b"", name="book.xlsx")
-    book.save(file)
-    status, said, _ = run("check", file, "--only", "F")
-    assert status == 2 and any(f"{1 + HIDDEN[cells]} telegrams in the file; 1 judged" in line for line in said)
+@pytest.mark.parametrize("remark", NO_BYTES)
+def test_digits_by_chance(run: Run, table: Write, remark: str) -> None:
+    """The answer names them and says how many there are, which is true; the option that it names leaves them out."""
+    path = table("group;telegram;old", f"A;{ALONE};{remark.replace(';', ',')}")
+    count = sum(len(group) for group in re.findall(r"\b[0-9A-Fa-f]+\b", remark))
+    status, said, _ = run("check", path, "--only", "F")
+    named = f'not judged: 1 possible telegram in column "old", row 2: row 2 has {count} hexadecimal digits there: '
+    assert status == 2 and any(line.startswith(named) for line in said)
+    assert run("check", path, "--only", "F", "--skip-column", "old")[0] == 0
 
 
 @pytest.mark.parametrize("remark", NO_TELEGRAMS)
@@ -241,7 +226,7 @@ def test_a_list_in_a_remark(run: Run, table: Write, remark: str) -> None:
 def test_a_message_as_a_name(name: str, run: Run, table: Write) -> None:
     """A line of a file of messages has one message."""
     radio = table(f"{MESSAGE};{name}", name="m.txt")
-    err = [f"balisekit: {radio}: line 1: after the semicolon is a message: write one per line"]
+    err = [f"balisekit: {radio}: line 1: after the semicolon are digits as a message has: write one message per line"]
     assert run("check", table(*OLD), "--messages", radio) == (2, [], err)
 
 
@@ -269,13 +254,13 @@ def test_a_message_in_a_name(table: Write, name: str) -> None:
         "][",
     ]
     for text in (MESSAGE, *(each.join(groups) for each in between for groups in (pairs, fours))):
-        with pytest.raises(TableErrors, match="line 1: after the semicolon is a message: write one per line"):
+        with pytest.raises(TableErrors, match="line 1: after the semicolon are digits as a message has: write one message per line"):
             messages.read(str(table(f"{MESSAGE};{name.format(text)}", name="m.txt")))
 
 
 def test_a_name_of_digits(table: Write) -> None:
     """A time to the microsecond, the checksum of something or a UUID is no message."""
-    names = ["20261130190405123456", "d41d8cd98f00b204e9800998ecf8427e", MESSAGE[:-1], ""]
+    names = ["20261130190405123456", "d41d8cd98f00b204e9800998ecf8427e", MESSAGE[:12], ""]
     names += ["2026-11-30 19:04:05 123456", "030c8000-0000-4b00-8081-e81c501ff805", f"1{' ' * 5000}x"]
     names += ["km 12.345-13.400, 14.500-15.600", "192.168.100.101 to 192.168.100.102"]
     names += ["+49 30 1234567 / +49 40 1234567"]

@@ -147,7 +147,7 @@ def test_version_imports_no_command() -> None:
     done = subprocess.run([sys.executable, "-c", code], env=known, capture_output=True, check=False)
     ours = {name for name in done.stderr.decode().split() if name.startswith("balisekit")}
     assert done.returncode == 0 and done.stdout.startswith(b"balisekit ")
-    metadata = {"balisekit.engine", "balisekit.engine.find_program", "balisekit.engine.library"}
+    metadata = {"balisekit.engine", "balisekit.engine.find_program"}
     assert ours == {
         "balisekit",
         "balisekit.cli",

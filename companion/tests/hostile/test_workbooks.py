@@ -455,11 +455,11 @@ def test_a_zero_that_a_spreadsheet_has_calculated(table: Write) -> None:
 
 
 def test_lines_of_a_csv_in_one_column(run: Run, table: Write) -> None:
-    """Somebody has pasted them into a sheet or a column. Each telegram counts."""
+    """Somebody has pasted them into a sheet or a column. Each such cell counts."""
     lines = f"B;{OTHER};12.3", f"B|{OTHER}|{ALONE}"
     path = table(content=workbook(sheet(HEADING, GOOD), sheet(*map(row, lines))))
     status, out, _ = run("check", path)
-    assert status == 2 and out[-1].startswith("INCOMPLETE: 3 telegrams in columns or sheets that are not read")
+    assert status == 2 and out[-1].startswith("INCOMPLETE: 2 telegrams in columns or sheets that are not read")
     assert any(line.startswith('not judged: 3 telegrams in sheet "S2", rows 1 to 2: ') for line in out)
     path = table(content=workbook(sheet(X, row("A", ALONE, lines[0]))))
     status, out, _ = run("check", path)
@@ -473,7 +473,7 @@ def test_telegrams_in_comments(table: Write) -> None:
     comments = f"<comments xmlns='{MAIN}'><comment ref='B2'><text><t>{OTHER}</t></text></comment></comments>"
     part = ("xl/comments1.xml", "comments", comments)
     notes = tables.read(str(table(content=workbook(sheet(HEADING, GOOD), more=[part])))).notes
-    said = "telegrams in comments, text boxes and other parts that are not read: 1, the first in xl/comments1.xml"
+    said = "digits as telegrams have in comments, text boxes and other parts that are not read: 1, the first in xl/comments1.xml"
     assert said in notes
 
 
@@ -499,8 +499,8 @@ def test_telegrams_in_other_parts(name: str, table: Write) -> None:
     else:
         content = workbook(sheet(*rows), more=[(part, "other", xml)] if xml else [])
     notes = tables.read(str(table(content=content))).notes
-    said = f"telegrams in comments, text boxes and other parts that are not read: 1, the first in {part}"
-    assert [note for note in notes if note.startswith("telegrams in ")] == ([said] if case["is found"] == "yes" else [])
+    said = f"digits as telegrams have in comments, text boxes and other parts that are not read: 1, the first in {part}"
+    assert [note for note in notes if note.startswith("digits as telegrams have in ")] == ([said] if case["is found"] == "yes" else [])
 
 
 def strings_of(part: str, *texts: str) -> Any:
@@ -520,7 +520,7 @@ def test_shared_strings_of_another_name(part: str, table: Write) -> None:
     more = [strings_of(part, "A", ALONE, "x", OTHER)]
     notes = tables.read(str(table(content=workbook(sheet(HEADING, SHARED), more=more)))).notes
     assert notes[1:] == (
-        f"telegrams in comments, text boxes and other parts that are not read: 1, the first in {part}",
+        f"digits as telegrams have in comments, text boxes and other parts that are not read: 1, the first in {part}",
     )
 
 
@@ -548,11 +548,15 @@ def test_two_workbooks_in_a_package(table: Write) -> None:
 
 @pytest.mark.parametrize("length", [9, 16, 27])
 def test_carriage_returns(length: int, run: Run, table: Write) -> None:
-    """Excel stores one by its number. With it, or without, a telegram of several lines is refused."""
+    """Excel stores one by its number. With it, or without, a telegram of several lines counts, unless left out."""
     lines = [OTHER[at : at + length] for at in range(0, len(OTHER), length)]
     for end in ("_x000D_\n", "_x000d_", "\n"):
         path = table(content=workbook(sheet(X, row("A", ALONE, end.join(lines)))))
-        assert run("check", path)[0] == 2 and "cell 3 has line ends and a telegram in it" in refusal(path)
+        status, said, _ = run("check", path)
+        assert status == 2 and any(line.startswith('not judged: 1 telegram in sheet "S1", column "x"') for line in said)
+        assert run("check", path, "--skip-column", "x")[0] == 0
+    path = table(content=workbook(sheet(X, row("A", ALONE, "made by\n94197054c0950af5adb77da36675a30ab0567caf"))))
+    assert run("check", path)[0] == 0
 
 
 def test_two_parts_with_shared_strings(table: Write) -> None:
@@ -576,7 +580,10 @@ def test_embedded_files(inner: bytes, is_searched: bool, table: Write) -> None:
         file.writestr("xl/embeddings/1.bin", inner)
         file.writestr("xl/media/1.png", b"\x89PNG")
     notes = tables.read(str(table(content=out.getvalue()))).notes
-    said = "telegrams in comments, text boxes and other parts that are not read: 1, the first in xl/embeddings/1.bin"
+    said = (
+        "digits as telegrams have in comments, text boxes and other parts that are not read: 1, the first in "
+        "xl/embeddings/1.bin"
+    )
     parts = "macros, embedded objects and other parts that are not searched for telegrams: 1, the first "
     assert notes[1:] == ((said,) if is_searched else (f"{parts}xl/embeddings/1.bin",))
 

@@ -3,7 +3,7 @@ from __future__ import annotations
 
 from collections import Counter
 from dataclasses import dataclass
-from typing import Callable, Dict, List, Mapping, NamedTuple, Optional, Sequence, Tuple
+from typing import Callable, Dict, Iterable, List, Mapping, NamedTuple, Optional, Sequence, Tuple
 
 from balisekit.certificate.judging import Answer, Baseline, Judge, Judgement
 from balisekit.certificate.trials import Trial, judgements, trials
@@ -46,6 +46,7 @@ class Certificate:
     outcome: Outcome
     """What the check finds of the line as it is."""
     judged: Sequence[Tuple[Trial, Judgement]]
+    """Each change of each kind. Several kinds can make the same change, with the same judgement."""
     not_tried: int
     """The changes for which the time was too short."""
     per_kind: int
@@ -53,16 +54,16 @@ class Certificate:
 
     @property
     def whole(self) -> Score:
-        """All changes together."""
-        return score(self.judged)
+        """All changes together, each of them once."""
+        return score(_once(self.judged))
 
     def by_kind(self) -> Dict[str, Score]:
         """The changes of each kind."""
         return _by(self.judged, lambda trial: trial.mistake.name)
 
     def by_field(self) -> Dict[str, Score]:
-        """The changes of each variable, by packet and name."""
-        of_fields = [each for each in self.judged if each[0].mistake.folder == "fields"]
+        """The changes of each variable, by packet and name, each of them once."""
+        of_fields = _once(each for each in self.judged if each[0].mistake.folder == "fields")
         return _by(of_fields, lambda trial: trial.change.field)
 
     @property
@@ -83,10 +84,13 @@ def certificate(
 
     `tell` is called with the number of changes that are done, and with that of all.
     """
-    tried = trials(Original(outcome.checked), per_kind, seed)
-    done = judgements(Baseline(outcome, judge), tried, seconds, lambda count: tell(count, len(tried)))
-    judged = [(tried[place], done[place]) for place in sorted(done)]
-    return Certificate(outcome, judged, len(tried) - len(judged), per_kind, seed)
+    made = trials(Original(outcome.checked), per_kind, seed)
+    places = {trial.edit: place for place, trial in reversed([*enumerate(made)])}
+    different = [made[place] for place in sorted(places.values())]
+    done = judgements(Baseline(outcome, judge), different, seconds, lambda count: tell(count, len(different)))
+    answers = {different[place].edit: judgement for place, judgement in done.items()}
+    judged = [(trial, answers[trial.edit]) for trial in made if trial.edit in answers]
+    return Certificate(outcome, judged, len(different) - len(done), per_kind, seed)
 
 
 def score(judged: Sequence[Tuple[Trial, Judgement]]) -> Score:
@@ -95,6 +99,14 @@ def score(judged: Sequence[Tuple[Trial, Judgement]]) -> Score:
     counted = [each for each in judged if each[1].answer in COUNTED]
     worst = max(counted, key=lambda each: COUNTED.index(each[1].answer), default=None)
     return Score(Counter(each.answer for _, each in judged), [rule for rule, _ in rules.most_common()], worst)
+
+
+def _once(judged: Iterable[Tuple[Trial, Judgement]]) -> List[Tuple[Trial, Judgement]]:
+    """Each change once, as the first of the kinds that make it."""
+    found: Dict[object, Tuple[Trial, Judgement]] = {}
+    for each in judged:
+        found.setdefault(each[0].edit, each)
+    return list(found.values())
 
 
 def _by(judged: Sequence[Tuple[Trial, Judgement]], key: Callable[[Trial], str]) -> Dict[str, Score]:

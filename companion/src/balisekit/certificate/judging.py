@@ -38,7 +38,7 @@ class Answer(Enum):
     NOT_FOUND = "not found"
     """The answer is the same."""
     LEGAL = "legal"
-    """The changed line is as right as the line was, so that nothing has to be found."""
+    """The changed line is as right as the line was, and the check says nothing new of it."""
     UNFIT = "does not fit"
     """The program cannot write the changed telegram, so that nobody can make this mistake."""
 
@@ -75,10 +75,12 @@ class Judge:
     by_position: bool = False
     everything: bool = False
 
-    def outcome(self, program: Program, table: Table, messages: Optional[Messages]) -> Outcome:
-        """What all rules find of a changed line."""
+    def outcome(
+        self, program: Program, table: Table, messages: Optional[Messages], with_causes: bool = True
+    ) -> Outcome:
+        """What all rules find of a changed line. The search for causes takes most of the time."""
         made = checking.check(program, table, messages, self.by_position, self.everything)
-        return apply(made, self.letters, self.options, self.signed)
+        return apply(made, self.letters, self.options, self.signed, with_causes=with_causes)
 
 
 class Baseline:
@@ -87,22 +89,35 @@ class Baseline:
     def __init__(self, outcome: Outcome, judge: Judge) -> None:
         self.outcome, self.judge = outcome, judge
         self._named = Counter(_named(outcome))
+        self._findings = Counter(_findings(outcome))
         self._hints = Counter(_hints(outcome))
 
     def judgement(self, change: Change, texts: Mapping[int, str]) -> Judgement:
-        """What the check says of a change. `texts` has the new digits of telegrams, by row."""
-        if change.legal:
-            return Judgement(Answer.LEGAL, sentence=change.legal)
+        """What the check says of a change. `texts` has the new digits of telegrams, by row.
+
+        A change that means the same counts all the same if the check says anything new. It also counts if only the
+        program does, whose findings F may be expected, accepted or left out: a train may lack data then.
+        """
         try:
             checked = self.outcome.checked
             table = changed_table(checked.table, change, texts, self.judge.by_position)
             messages = changed_messages(checked.messages, change, texts)
-            outcome = self.judge.outcome(checked.program, table, messages)
+            judgement = self._judgement(change, self.judge.outcome(checked.program, table, messages, False))
+            # (an entry that stands for others names all rows that these name, and those of its correction)
+            if judgement.answer is Answer.ELSEWHERE:
+                judgement = self._judgement(change, self.judge.outcome(checked.program, table, messages))
+            return judgement
         except (TableError, TableErrors) as error:
             refused = [Named(REFUSED, str(fault), rows_of_refusal(fault)) for fault in error.faults]
             return _said(change, refused, ())
+
+    def _judgement(self, change: Change, outcome: Outcome) -> Judgement:
+        """What the answer about a changed line says of the change."""
         new = list((Counter(_named(outcome)) - self._named).elements())
-        return _said(change, new, self._new_hints(Counter(_hints(outcome))))
+        judgement = _said(change, new, self._new_hints(Counter(_hints(outcome))))
+        if change.legal and judgement.answer is Answer.NOT_FOUND and not Counter(_findings(outcome)) - self._findings:
+            return Judgement(Answer.LEGAL, sentence=change.legal)
+        return judgement
 
     def _new_hints(self, hints: Counter[str]) -> Sequence[str]:
         """The hints that the line did not have. One that differs from a hint of the line only in numbers is not new."""
@@ -131,6 +146,15 @@ def _named(outcome: Outcome) -> Iterator[Named]:
         yield Named(REFUSED, each.refusal.text, frozenset({each.row.number}))
     for message in outcome.checked.refused_messages:
         yield Named(REFUSED, message.refusal.text, frozenset({-message.message.number}))
+
+
+def _findings(outcome: Outcome) -> Iterator[Tuple[Any, ...]]:
+    """All findings of the program, whether or not anybody has asked for them."""
+    for each in outcome.checked.findings:
+        group, row, message = each.group and each.group.name, each.row and each.row.number, each.message
+        yield each.finding.rule, each.finding.direction, group, each.aspect, row, message and message.number, str(
+            each.statement
+        )
 
 
 def rows_of_refusal(fault: TableError) -> FrozenSet[int]:

@@ -33,17 +33,17 @@ class Trial(NamedTuple):
     fits: bool = True
     """Whether the program can write all of them."""
 
+    @property
+    def edit(self) -> Tuple[object, ...]:
+        """What identifies the change in the line: several kinds of mistakes can make the same one."""
+        change = self.change
+        cells = tuple((row, tuple(sorted(own.items()))) for row, own in sorted(change.cells.items()))
+        digits = tuple(sorted(self.texts.items())) if self.fits else change.words
+        return change.rows, change.lost, cells, digits
 
-class Judged(NamedTuple):
-    """A mistake that was made in a line, and what the check says of it."""
 
-    mistake: Mistake
-    change: Change
-    judgement: Judgement
-
-
-def trials(original: Original, per_kind: int, seed: int) -> List[Trial]:
-    """The changes of all kinds, in turn: at most `per_kind` of a kind, or of a kind in each field.
+def trials(original: Original, per_kind: int, seed: int, kinds: Optional[Sequence[Mistake]] = None) -> List[Trial]:
+    """The changes of all kinds, or of these, in turn: at most `per_kind` of a kind, or of a kind in each field.
 
     The same line and the same seed give the same changes.
     """
@@ -52,10 +52,12 @@ def trials(original: Original, per_kind: int, seed: int) -> List[Trial]:
             (mistake, change._replace(legal=change.legal or same_meaning(original, change)))
             for change in mistake.make(original, Random(f"{seed} {mistake.name}"), per_kind)
         ]
-        for mistake in catalogue()
+        for mistake in (catalogue() if kinds is None else kinds)
     ]
     in_turn = [each for each in chain.from_iterable(zip_longest(*made)) if each is not None]
-    return list(_encoded(original.checked.program, in_turn))
+    found = list(_encoded(original.checked.program, in_turn))
+    legal = {each.edit: each.change.legal for each in found if each.change.legal}
+    return [each._replace(change=each.change._replace(legal=legal.get(each.edit, ""))) for each in found]
 
 
 def _encoded(program: Program, made: Sequence[Tuple[Mistake, Change]]) -> Iterator[Trial]:

@@ -22,7 +22,7 @@ def add_options(parser: argparse.ArgumentParser) -> None:
     shared.add(parser, *shared.INPUTS)
     text = f"{shared.EXPLAIN}; with E9 as TABLE the page of that rule"
     shared.add(parser, "--explain", help=text)
-    shared.add(parser, "--all", "--accepted")
+    shared.add(parser, "--folded", "--all", "--accepted")
     add_only(parser)
     settings.add_options(parser)
     for each in FORMATS:
@@ -47,5 +47,6 @@ def run(options: argparse.Namespace) -> int:
     for each, output in outputs.items():
         each.write(output, outcome)
     notes = [each.lacking for each in outputs if each.lacking and not outcome.checked.whole]
-    shared.say(lines(outcome, options.explain, options.propose is not None, notes), *outputs.values())
+    said = lines(outcome, options.explain, options.propose is not None, notes, options.folded)
+    shared.say(said, *outputs.values())
     return outcome.status

@@ -63,13 +63,10 @@ class _Version(argparse.Action):
     """
 
     def __call__(self, parser: Any, *_: Any) -> None:
-        from balisekit.engine.find_program import released
+        from balisekit.engine.find_program import released, stored_library
 
-        library = ""
-        with suppress(ImportError):  # (some builds of Python have no ctypes)
-            from balisekit.engine.library import stored
-
-            library = stored() and f"library {stored()}"
+        stored = stored_library()
+        library = stored and f"library {stored.path}"
         print(*filter(None, (f"balisekit {__version__}", released(), library)), sep="\n")
         parser.exit()
 
@@ -200,7 +197,7 @@ def _claim(options: argparse.Namespace, replaces: bool) -> None:
                 stated(path, columns, CHECK_TABLE)
         program = options.program or os.environ.get("BALISECHECK") or "balisecheck"
         claimed(shutil.which(program) or "")
-        found = claimed(find_program.find(options.program))
+        found = claimed(find_program.answering(options.program, options.timeout))
         claimed(os.path.join(os.path.dirname(found), "ABOUT"))
 
 

@@ -22,6 +22,7 @@ ASPECT = "the aspect of the groups that a track shows; by default the aspect wit
 TOLERANCE = "by how much places may differ, for L1 and L2 beyond Q_LOCACC; by default 0"
 SKIP = "the heading of a column that is not to be read, even if it has telegrams; it can be given several times"
 EXPLAIN = "show cause and remedy of each rule that has found something"
+FOLDED = "list each entry that is folded below the one correction that explains it"
 EXACT = Decimal()
 """The tolerance without --tolerance."""
 Value = TypeVar("Value")
@@ -83,6 +84,7 @@ OPTIONS: Dict[str, Dict[str, Any]] = {
     "--program": value("PATH", name, "the balisecheck to use"),
     "--timeout": value("SECONDS", _seconds, TIMEOUT),
     "--explain": flag(EXPLAIN),
+    "--folded": flag(FOLDED),
     "--all": flag(checking.ALL_HELP),
     "--accepted": input_file("a CSV file of accepted entries, each with who accepted it"),
     "--json": output_file("write the complete result as JSON"),

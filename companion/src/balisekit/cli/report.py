@@ -7,7 +7,8 @@ import shlex
 from typing import Iterator
 
 from balisekit.cli import options as shared, settings
-from balisekit.cli.outcome import add_only, links_of, outcome as outcome_of, stated
+from balisekit.cli.in_force import in_force
+from balisekit.cli.outcome import add_only, letters_of, links_of, outcome as outcome_of, stated
 from balisekit.cli.selection import check_aspect
 from balisekit.io import clock
 from balisekit.io.inputs import InputPath
@@ -15,12 +16,16 @@ from balisekit.present.certificate_json import read
 from balisekit.present.opening import from_table, opening
 from balisekit.present.outcome_text import closing_lines
 from balisekit.present.report_page import report_page
-from balisekit.rules.families import PROVED
+from balisekit.rules.families import PROVED, Outcome
+from balisekit.rules.rule import Options
 from balisekit.tables.names import clean
+from balisekit.tables.settings import Settings
 
 FULL = "fold nothing: decoded telegrams and groups without findings are printed too"
 OF_THE_DOCUMENT = ("messages", "by_position", *(word[2:].replace("-", "_") for word in shared.READING), "all")
 """The options that change the document."""
+SHOWING = ("aspect", "full")
+"""The options that change only what is shown."""
 
 
 def add_options(parser: argparse.ArgumentParser) -> None:
@@ -45,12 +50,19 @@ def run(options: argparse.Namespace) -> int:
     links = links_of(outcome, of_line)
     if PROVED not in outcome.letters:
         links.line.findings = {}  # (pictures would show them)
-    certified = read(options.certificate, outcome) if options.certificate else None
+    certified = read(options.certificate, outcome, _judging(options, outcome, of_line)) if options.certificate else None
     page = report_page(outcome, links, heading, command, now, options.aspect, options.full, certified)
     options.html.write(page)
     written = f"written: {clean(str(options.html))}"
     shared.say([*opening(outcome.checked, outcome.judged), written, *closing_lines(outcome)], options.html)
     return outcome.status
+
+
+def _judging(options: argparse.Namespace, outcome: Outcome, line: Options) -> Settings:
+    """The settings that change what is found, as `certify` has them."""
+    others = argparse.Namespace(**{**vars(options), **dict.fromkeys(SHOWING)})
+    table, keys = outcome.checked.table, settings.used_by(letters_of(options))
+    return in_force(others, [table], keys, added=line.added)
 
 
 def _command(options: argparse.Namespace) -> Iterator[str]:

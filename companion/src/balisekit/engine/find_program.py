@@ -1,4 +1,4 @@
-"""Where the program's file is, and who knows its checksum: ABOUT and RELEASES of a clone, a release or a wheel."""
+"""Where the program and its library are, and who knows their checksums: ABOUT and RELEASES."""
 from __future__ import annotations
 
 import glob
@@ -7,6 +7,7 @@ import os
 import shutil
 import sys
 from contextlib import contextmanager, suppress
+from functools import lru_cache
 from typing import TYPE_CHECKING, Dict, Iterator, List, Mapping, NamedTuple, Optional, Tuple
 
 from balisekit.errors import NoAnswer
@@ -19,6 +20,7 @@ TOP = os.path.normpath(os.path.join(os.path.realpath(__file__), *[os.pardir] * 5
 """The top of the repository or of the release. For a wheel it is neither, and the package has the file."""
 SECONDS = 60
 """How long the start script of a clone may take to compute the checksum of its sources."""
+LIBRARY = "libbalisecheck.so.0"
 ABOUT, RELEASES, SOURCES = "ABOUT", "RELEASES", "sources"
 """What a checksum is known by: the program that was stored with this balisekit, one that was stored before, or one that
 was built from the sources of this clone and not stored."""
@@ -31,7 +33,7 @@ _STARTED: List[Popen[bytes]] = []
 @contextmanager
 def script_ahead() -> Iterator[None]:
     """Within this, the start script of a clone runs while balisekit imports what its command needs."""
-    if not os.environ.get("BALISECHECK") and _is_clone() and not _is_program(_script()):
+    if not os.environ.get("BALISECHECK") and _is_of_sources() and not current_library():
         _STARTED.append(_start(_script()))
     try:
         yield
@@ -50,14 +52,83 @@ def _is_clone() -> bool:
     return os.path.isfile(os.path.join(TOP, "companion", "pyproject.toml")) and os.path.isfile(_script())
 
 
+def _is_of_sources() -> bool:
+    """Whether this is a clone whose start script compares the program with the sources."""
+    return _is_clone() and not _is_program(_script())
+
+
+class StoredLibrary(NamedTuple):
+    """The library for C that was stored with the program of this balisekit."""
+
+    path: str
+    sha256: str
+    about: Mapping[str, str]
+    """The lines of its ABOUT."""
+
+
+def stored_library() -> Optional[StoredLibrary]:
+    """The library that the first ABOUT names, if its file is undamaged. None if there is none."""
+    for folder, papers in abouts():
+        path = os.path.join(folder, LIBRARY)
+        if os.path.isfile(path):
+            sha256 = checksum(path)
+            return StoredLibrary(path, sha256, papers) if sha256 == papers.get("library") else None
+    return None
+
+
+@lru_cache(maxsize=None)
+def current_library() -> Optional[StoredLibrary]:
+    """The stored library, but in a clone only if no source has changed since: otherwise the start script decides."""
+    stored = stored_library()
+    return None if stored and _is_of_sources() and _has_changed_since(stored.path) else stored
+
+
+def is_asked_for(named: Optional[str], timeout: Optional[float] = None) -> bool:
+    """Whether the user asks for a run of the program: by its name, or by a time to wait, for a call cannot be ended."""
+    return named is not None or timeout is not None or bool(os.environ.get("BALISECHECK"))
+
+
+def answering(named: Optional[str], timeout: Optional[float]) -> str:
+    """The file of the library if it answers, else of the program."""
+    library = None if is_asked_for(named, timeout) else current_library()
+    return library.path if library else find(named)
+
+
+def _has_changed_since(path: str) -> bool:
+    """Whether a file of the sources has changed after ABOUT was written, or come or gone, or something was built.
+
+    To hash all sources takes several times as long. A fresh clone or tarball writes its files by their names, and so
+    ABOUT after the sources. (It can set the times of folders at its end, which come from it then.)
+    """
+    if os.path.exists(os.path.join(TOP, "out", "balisecheck")):
+        return True
+    written = os.stat(os.path.join(os.path.dirname(path), ABOUT)).st_ctime_ns
+    crates = os.path.join(TOP, "crates")
+    if any(os.stat(os.path.join(TOP, name)).st_ctime_ns > written for name in ("crates.txt", "HANDLES")):
+        return True
+    folders = [os.path.join(crates, crate, part) for crate in os.listdir(crates) for part in ("src", "specs", "proofs")]
+    return os.stat(crates).st_mtime_ns > written or any(_is_newer(each, written) for each in folders)
+
+
+def _is_newer(folder: str, written: int) -> bool:
+    """Whether the folder, if there is one, or anything in it has changed after this time."""
+    with suppress(FileNotFoundError), os.scandir(folder) as entries:
+        if os.stat(folder).st_mtime_ns > written:
+            return True
+        return any(
+            _is_newer(each.path, written) if each.is_dir() else each.stat().st_ctime_ns > written for each in entries
+        )
+    return False
+
+
 def find(named: Optional[str]) -> str:
     """Where the program is. The start script of a clone is replaced by the program that it would run."""
-    named = named or os.environ.get("BALISECHECK")
+    named = os.environ.get("BALISECHECK") or None if named is None else named
     script, is_clone = _script(), _is_clone()
-    if named:
-        path = shutil.which(named)
+    if named is not None:
+        path = shutil.which(named) if isinstance(named, (str, os.PathLike)) else None
         if path is None or not os.path.isfile(path):
-            raise NoAnswer(f"there is no program {named}")
+            raise NoAnswer(f"there is no program {named or repr(named)}")
     elif is_clone:
         path = script
     else:

@@ -1,8 +1,8 @@
 """The program: where it is, and what it answers.
 
-`Program.find()` finds it. `decode`, `encode`, `messages` and `check` hand data to it and give its answers in order. A
-run ends with the first line that it refuses. If the library for C was stored with the program, it answers to the lines
-after that one. Otherwise another run does.
+`Program.find()` finds it, or the library for C that was stored with it and answers in this process. `decode`, `encode`,
+`messages` and `check` hand data to it and give its answers in order. A run of the program ends with the first line that
+it refuses, and another run reads the lines after that one.
 """
 from __future__ import annotations
 
@@ -12,9 +12,8 @@ import tempfile
 from collections.abc import Callable, Iterable, Iterator, Mapping, Sequence
 from contextlib import ExitStack
 from dataclasses import dataclass, field, replace
-from functools import cached_property
 from threading import Event
-from typing import IO, TYPE_CHECKING, Any, Dict, List, NamedTuple, Optional, Tuple, TypeVar, Union
+from typing import IO, TYPE_CHECKING, Any, ClassVar, Dict, List, NamedTuple, Optional, Tuple, TypeVar, Union
 
 from balisekit.engine import find_program, grammar, records
 from balisekit.engine.grammar import Finding, Refusal, Verdict
@@ -23,12 +22,12 @@ from balisekit.engine.run import HANDSHAKE_LIMIT, Limit, Run
 from balisekit.errors import NoAnswer
 
 if TYPE_CHECKING:
-    from balisekit.engine.library import Call, Library
+    from balisekit.engine.library import Call
 
 FEW = 16
 """After this many refusals the rest is tried in parts, several at a time."""
 PART = 64
-"""The lines or messages of a part, and of a call of the library."""
+"""The lines or messages of a part, and the lines of a call of the library."""
 AT_A_TIME = min(4, os.cpu_count() or 1)
 SHOWN = 100
 """How many characters of a wrong answer are shown."""
@@ -89,8 +88,10 @@ class Report(NamedTuple):
 
 @dataclass(frozen=True)
 class Program:
-    """A program that has shown that it is balisecheck."""
+    """A program that has shown that it is balisecheck, or its library."""
 
+    kind: ClassVar[str] = "program"
+    """What answers: `program` or `library`."""
     path: str
     """The file."""
     sha256: str
@@ -105,8 +106,13 @@ class Program:
 
     @classmethod
     def find(cls, named: Optional[str] = None, timeout: Optional[float] = None) -> Program:
-        """The program of this path, else of BALISECHECK, else that of the clone, else the installed one. `KitError` is
-        raised if there is none, if its checksum is not known and no path was given, or if it fails a trial run."""
+        """The program of this path, else of BALISECHECK, else the library that was stored with this balisekit, else the
+        program of the clone, else the installed one. `KitError` is raised if there is none, if its checksum is not
+        known and no path was given, or if it fails a trial run. With a limit of time no library answers, because
+        nothing can end a call."""
+        library = None if find_program.is_asked_for(named, timeout) else _library()
+        if library:
+            return library
         path = find_program.find(named)
         sha256 = find_program.checksum(path)
         known = find_program.known(named, path, sha256)
@@ -140,12 +146,8 @@ class Program:
 
     def check(self, document: Union[str, bytes, Mapping[str, Any], Iterable[str]]) -> Union[Report, Refusal]:
         """What the program reports of a document of a line: an object, its JSON, or the pieces of its JSON."""
-        if isinstance(document, Mapping):
-            document = json.dumps(document, separators=(",", ":"))
-        pieces = [document] if isinstance(document, (str, bytes)) else document
         with tempfile.TemporaryFile() as file:
-            for piece in pieces:
-                file.write(piece.encode("utf-8", "surrogatepass") if isinstance(piece, str) else piece)
+            file.writelines(pieces(document))
             file.flush()
             return self._check(file)
 
@@ -180,33 +182,20 @@ class Program:
                 raise self.no_answer("decode --radio", f"no record of a message: {answer[:SHOWN]}")
             yield Record(answer)
 
-    @cached_property
-    def library(self) -> Optional[Library]:
-        """The library for C that was stored with the program, if it can be used here."""
-        try:
-            from balisekit.engine.library import opened, stored  # (slow, and only needed after a refusal)
-        except ImportError:  # (some builds of Python have no ctypes)
-            return None
-        return opened(stored(self.sha256))
-
     def _refusals(self, texts: Sequence[str]) -> Iterator[Optional[Refusal]]:
         """The refusal of each message, or None if `check` can read it."""
         done = 0
-        library: Optional[Library] = None
         while done < len(texts):
-            part = texts[done : done + PART] if library else texts[done:]
-            document = json.dumps({"groups": [], "messages": part}).encode()
-            answer = _report(library.call(["check"], document), len(document)) if library else self.check(document)
+            part = texts[done:]
+            answer = self.check({"groups": [], "messages": part})
             if isinstance(answer, Report):
                 yield from [None] * len(part)
-                done += len(part)
-                continue
+                return
             if answer.message is None or answer.message >= len(part):
                 raise self.no_answer("check", answer.line)
             yield from [None] * answer.message
             yield answer
             done += answer.message + 1
-            library = self.library
 
     def _each(self, words: Sequence[str], texts: Iterable[str]) -> Iterator[Answer]:
         """The line, or the refusal, that the command writes for each text."""
@@ -223,22 +212,10 @@ class Program:
             while done < len(lines):
                 os.lseek(file.fileno(), begin, os.SEEK_SET)
                 with self._run(words, file, size - begin) as run:
-                    for answer in _answers(run, " ".join(words), len(lines) - done):
+                    for answer in answers(run, " ".join(words), len(lines) - done):
                         begin += len(lines[done])
                         done += 1
                         yield answer
-                if done < len(lines) and self.library:
-                    yield from self._answers_of_library(self.library, words, lines[done:])
-                    return
-
-    def _answers_of_library(self, library: Library, words: Sequence[str], lines: Sequence[bytes]) -> Iterator[Answer]:
-        """What the library writes for each of these lines."""
-        done = 0
-        while done < len(lines):
-            part = lines[done : done + PART]
-            for answer in _answers(library.call(words, b"".join(part)), " ".join(words), len(part)):
-                done += 1
-                yield answer
 
     def _several(self, work: Callable[[Program, Span], Iterator[Done]], count: int) -> Iterator[Done]:
         """What is done for each line or message: by one run after the other, and after a few refusals by several."""
@@ -247,7 +224,7 @@ class Program:
             done += 1
             refused += isinstance(answer, Refusal)
             yield answer
-            if refused == FEW and not self.library:
+            if refused == FEW:
                 break
         if done < count:
             yield from replace(self, _stop=Event())._in_parts(work, range(done, count, PART))
@@ -269,7 +246,7 @@ class Program:
         size = os.lseek(document.fileno(), 0, os.SEEK_END)
         os.lseek(document.fileno(), 0, os.SEEK_SET)
         with self._run(["check"], document, size) as run:
-            return _report(run, size)
+            return read_report(run, size)
 
     def _run(self, words: Sequence[str], stdin: IO[bytes], size: int) -> Run:
         return Run(self.path, words, stdin, Limit.of(size, self.timeout, self._stop))
@@ -308,7 +285,24 @@ class Program:
         return NoAnswer(f"no answer of {self.path}: {command}: {why}")
 
 
-def _report(run: Union[Run, Call], size: int) -> Union[Report, Refusal]:
+def _library() -> Optional[Program]:
+    """The library that answers in the place of the program, if it can be used here."""
+    try:
+        from balisekit.engine.loaded_library import LoadedLibrary
+    except ImportError:  # (some builds of Python have no ctypes)
+        return None
+    return LoadedLibrary.stored()
+
+
+def pieces(document: Union[str, bytes, Mapping[str, Any], Iterable[str]]) -> Iterator[bytes]:
+    """The bytes of a document: an object, its JSON, or the pieces of its JSON."""
+    if isinstance(document, Mapping):
+        document = json.dumps(document, separators=(",", ":"))
+    for piece in [document] if isinstance(document, (str, bytes)) else document:
+        yield piece.encode("utf-8", "surrogatepass") if isinstance(piece, str) else piece
+
+
+def read_report(run: Union[Run, Call], size: int) -> Union[Report, Refusal]:
     """What a run of `check` writes for a document of this size."""
     lines = run.lines()
     first = next(lines, "")
@@ -330,7 +324,7 @@ def _report(run: Union[Run, Call], size: int) -> Union[Report, Refusal]:
     raise run.no_answer(_end(run, bool(first) + len(findings)))
 
 
-def _answers(run: Union[Run, Call], command: str, left: int) -> Iterator[Answer]:
+def answers(run: Union[Run, Call], command: str, left: int) -> Iterator[Answer]:
     """What one run writes: lines, and a refusal as the last one if it does not come to the end.
 
     An answer is given when the next one has been read. So the last one is given only after the run has ended well.

@@ -59,8 +59,13 @@ class Change(NamedTuple):
     old: str = ""
     new: str = ""
 
+    @property
+    def where_words(self) -> str:
+        """The packet and its part; empty in the header."""
+        return "  ".join(map(str, self.where))
+
     def __str__(self) -> str:
-        where = "".join(f"{step}  " for step in self.where)
+        where = f"{self.where_words}  " if self.where else ""
         if self.kind == MOVED:
             return "the packets stand in another order"
         if self.kind == CHANGED:

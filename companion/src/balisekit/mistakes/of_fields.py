@@ -5,7 +5,6 @@ from random import Random
 from functools import partial
 from typing import Callable, Iterable, Iterator, Optional
 
-from balisekit.etcs.variables import UNITS
 from balisekit.mistakes.mistake import Change, Mistake
 from balisekit.mistakes.original import Original, Value, named, with_number
 
@@ -13,9 +12,6 @@ Numbers = Callable[[Original, Value], Iterable[Optional[int]]]
 """The wrong numbers that a mistake may give to a variable, in the order in which they are tried. None is skipped."""
 TRIED = 20
 """After this many places of a variable at which a mistake is not possible, it is not tried at others."""
-ROUNDING_DM = 10
-"""Kilometres and distances are rounded: a place that moves by one metre is as right as before."""
-ROUNDED = "within one metre, by which kilometres and distances are rounded"
 
 
 def mistake_of(module: str, page: Optional[str], numbers: Numbers) -> Mistake:
@@ -49,11 +45,4 @@ def changed(original: Original, value: Value, number: int) -> Change:
     """The change of one number."""
     words = f"{named(value.row)}: {value.label} {number} instead of {value.number}"
     form = with_number(original.forms[value.row], value, number)
-    legal = ROUNDED if is_rounding(value, number) else ""
-    return Change(words, frozenset({value.row}), value.label, {value.row: form}, legal=legal)
-
-
-def is_rounding(value: Value, number: int) -> bool:
-    """Whether another number of a distance means the same place within one metre."""
-    is_distance = value.variable.startswith(("D_", "L_")) and value.packet is not None
-    return is_distance and abs(number - value.number) * UNITS[value.q_scale] <= ROUNDING_DM
+    return Change(words, frozenset({value.row}), value.label, {value.row: form})

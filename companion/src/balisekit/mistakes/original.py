@@ -12,7 +12,7 @@ from typing import Any, Dict, Iterable, Iterator, List, Mapping, NamedTuple, Opt
 from balisekit.engine.records import BODIES, Form, allowed
 from balisekit.etcs.raw_layouts import variables as raw_variables
 from balisekit.etcs.raw_packets import RawField, body_bits, content_of
-from balisekit.etcs.variables import NO_FORM, Values, variable_name
+from balisekit.etcs.variables import NO_FORM, UNITS, Around, Values, metres, value_words, variable_name
 from balisekit.rules.checking import Checked
 from balisekit.tables.model import Group, Row
 
@@ -52,6 +52,16 @@ class Value(NamedTuple):
     def allows(self, number: int) -> bool:
         """Whether the variable may have this number: it is no spare one, and fits its bits."""
         return any(first <= number <= last for first, last in self.spans)
+
+    def is_distance(self, number: int) -> bool:
+        """Whether this number would be a distance in the unit of Q_SCALE, and no special one such as `now` (32,767)."""
+        words = value_words(str(self.path[-1]), number, Around({"q_scale": 0}))
+        return self.packet is not None and words == metres(number)
+
+    @property
+    def unit_dm(self) -> int:
+        """The unit of the distances of its packet, in decimetres."""
+        return UNITS[self.q_scale]
 
 
 class Original:
@@ -142,6 +152,13 @@ def values_of(row: int, form: Form) -> Iterator[Value]:
             if isinstance(field.raw, int) and field.path:
                 parts: Path = tuple(int(part) if part.isdigit() else part for part in field.path[1:].split("/"))
                 yield Value(row, place, path + parts, field.name, field.raw, f"{label} {field.name}", scale, field)
+
+
+def is_understood(form: Form, place: int) -> bool:
+    """Whether all bits of a packet are in its variables, by a layout that is certain."""
+    packet = form["packets"][place]
+    content = content_of(packet, is_from_track(form))
+    return "body" not in packet or content is not None and content.is_complete and content.layout.is_certain
 
 
 def is_from_track(form: Form) -> bool:

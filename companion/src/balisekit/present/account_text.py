@@ -8,7 +8,7 @@ from balisekit.tables.account import Account, NotJudged
 from balisekit.tables.model import Table
 from balisekit.tables.names import NAMED, clean, counted, listed, quoted, rows_words
 
-TELEGRAM, MESSAGE = "telegram", "message"
+TELEGRAM, MESSAGE, POSSIBLE = "telegram", "message", "possible telegram"
 
 
 def account_lines(outcome: Outcome) -> Iterator[str]:
@@ -24,9 +24,11 @@ def not_judged_lines(some: Iterable[NotJudged], thing: str = TELEGRAM) -> Iterat
     """A line for each reason: how many telegrams, where they are, and why they are not judged."""
     for each in some:
         where = [f"sheet {quoted(each.sheet)}"] if each.sheet else []
-        where += [f"column {quoted(each.column)}"] if each.column else []
+        names = listed(list(map(quoted, each.columns)), NAMED)
+        where += [f"column{'s' * (len(each.columns) > 1)} {names}"] if names else []
         where += [rows_words(each.rows) if thing == TELEGRAM else rows_words(each.rows).replace("row", "line", 1)]
-        many = counted(each.formulas, "formula") if each.formulas else counted(each.telegrams, thing)
+        counts = ((each.formulas, "formula"), (each.possible, POSSIBLE))
+        many = next((counted(count, what) for count, what in counts if count), counted(each.telegrams, thing))
         yield f"not judged: {many} in {', '.join(where)}: {clean(each.why)}"
 
 
@@ -39,6 +41,8 @@ def _parts(account: Account, thing: str) -> Iterator[str]:
     left_out = sum(each.telegrams for each in account.not_judged)
     yield f"{counted(account.telegrams, thing)} in the file"
     yield f"{account.judged} judged, {account.refused} refused, {left_out} not judged"
+    possible = sum(each.possible for each in account.not_judged)
+    yield from [f"{counted(possible, POSSIBLE)} not read"] if possible else ()
     formulas = sum(each.formulas for each in account.not_judged)
     yield from [f"{counted(formulas, 'formula')} without a stored value"] if formulas else ()
     if account.sheets:
@@ -79,8 +83,10 @@ def _not_judged_json(each: NotJudged, shown: Callable[[str], str]) -> Dict[str, 
         "why": shown(each.why),
         "sheet": None if each.sheet is None else shown(each.sheet),
         "rows": list(each.rows),
-        "column": None if each.column is None else shown(each.column),
+        "column": shown(each.columns[0]) if len(each.columns) == 1 else None,
+        **({"columns": list(map(shown, each.columns))} if len(each.columns) > 1 else {}),
         "telegrams": each.telegrams,
+        **({"possible": each.possible} if each.possible else {}),
         **({"formulas": each.formulas} if each.formulas else {}),
         "asked": each.asked,
     }

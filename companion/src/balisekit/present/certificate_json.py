@@ -11,7 +11,9 @@ from balisekit.errors import TableError, faults_of
 from balisekit.io import inputs
 from balisekit.present.certificate_text import last_line
 from balisekit.present.opening import paths_from, program_json, settings_json
+from balisekit.present.outcome_text import about_inputs, missing
 from balisekit.rules.families import Outcome
+from balisekit.tables.settings import Settings
 
 FORMAT = 1
 
@@ -21,7 +23,9 @@ def as_json(made: Certificate) -> Dict[str, Any]:
     return {
         "format": FORMAT,
         "last_line": last_line(made),
-        **_inputs(made.outcome),
+        "incomplete": missing(made.outcome),
+        **_inputs(made.outcome, made.outcome.checked.settings),
+        "notes": about_inputs(made.outcome, paths_from(made.outcome.checked)),
         "per_kind": made.per_kind,
         "seed": made.seed,
         "not_tried": made.not_tried,
@@ -44,7 +48,7 @@ def as_json(made: Certificate) -> Dict[str, Any]:
     }
 
 
-def _inputs(outcome: Outcome) -> Dict[str, Any]:
+def _inputs(outcome: Outcome, settings: Settings) -> Dict[str, Any]:
     """The version of balisekit, the program, the files and the settings."""
     checked, judged = outcome.checked, outcome.judged
     shown, entries = paths_from(checked), judged.entries if judged else None
@@ -53,7 +57,7 @@ def _inputs(outcome: Outcome) -> Dict[str, Any]:
         "balisekit": __version__,
         "program": program_json(checked.program),
         **{name: {"path": shown(file.path), "sha256": file.sha256} if file else None for name, file in files.items()},
-        "settings": settings_json(checked.settings, shown),
+        "settings": settings_json(settings, shown),
     }
 
 
@@ -65,16 +69,17 @@ class Certified(NamedTuple):
     last_line: str
 
 
-def read(path: str, outcome: Outcome) -> Certified:
+def read(path: str, outcome: Outcome, settings: Settings) -> Certified:
     """A certificate that was made of the same files with the same balisekit, program and settings.
 
-    TableError is raised for any other file: its figures would say nothing about this check.
+    `settings` are those that change what is found, without those of the report itself. TableError is raised for any
+    other file: its figures would say nothing about this check.
     """
-    file = inputs.read(path)
+    file, wanted = inputs.read(path), _inputs(outcome, settings)
     with faults_of(path):
         try:
             made = json.loads(file.content)
-            differ = [name for name, key in KEYS.items() if key(made[name]) != key(_inputs(outcome)[name])]
+            differ = [name for name, key in KEYS.items() if key(made[name]) != key(wanted[name])]
             text = str(made["last_line"]) if made["format"] == FORMAT else ""
         except (ValueError, KeyError, TypeError, AttributeError, RecursionError) as error:
             raise TableError("no certificate: write one with `certify --json FILE`") from error
@@ -90,8 +95,8 @@ def _checksum(file: Optional[Mapping[str, str]]) -> Optional[str]:
 
 
 def _values(sources: Sequence[Mapping[str, Any]]) -> Set[Tuple[str, str, Optional[str]]]:
-    """The settings that change a judgement, wherever they are from, with the checksums of the files that they name."""
-    values = [value for source in sources for value in source["values"] if not value["name"].startswith("report.")]
+    """The settings, wherever they are from, with the checksums of the files that they name."""
+    values = [value for source in sources for value in source["values"]]
     return {(each["name"].lstrip("-"), each["value"], each["sha256"]) for each in values}
 
 

@@ -10,9 +10,9 @@ from balisekit.certificate.trials import Trial
 from balisekit.io import clock
 from balisekit.present import NOT_PROVED
 from balisekit.present.check_text import head_line
-from balisekit.present.opening import opening, paths_from, program_words, settings_words
+from balisekit.present.opening import opening_of, paths_from, program_words, settings_words
+from balisekit.present.outcome_text import about_inputs, missing
 from balisekit.present.pages import pieces
-from balisekit.present.refusals import lacking, refused_lines
 from balisekit.tables.names import clean
 
 ABOUT = f"mistakes are made and counted by balisekit; {NOT_PROVED}"
@@ -28,9 +28,9 @@ def lines(made: Certificate) -> Iterator[str]:
     """The certificate in words."""
     checked = made.outcome.checked
     yield head_line(checked.table)
-    yield from opening(checked, made.outcome.judged)
+    yield from opening_of(checked.program, checked.settings)
+    yield from about_inputs(made.outcome)
     yield ABOUT
-    yield from refused_lines(checked)
     for name, example in survivors(made):
         yield f"{example[1].answer.value}: {name}: {clean(example[0].change.words)}"
         yield from [f"    {clean(example[1].sentence)}"] if example[1].sentence else []
@@ -42,7 +42,10 @@ def lines(made: Certificate) -> Iterator[str]:
 
 
 def last_line(made: Certificate) -> str:
-    """How good the check of this line is, in one line: for the cover of a report too."""
+    """How good the check of this line is, in one line: for the cover of a report too.
+
+    It begins with INCOMPLETE and the reasons if an answer of `check` would: then the status is 2.
+    """
     whole, kinds = made.whole, sum(1 for score in made.by_kind().values() if score.tried)
     elsewhere, hinted = (whole.answers.get(each, 0) for each in (Answer.ELSEWHERE, Answer.HINTED))
     found = f"{whole.found:,} ({whole.share} %)" if whole.tried else "none"
@@ -52,7 +55,7 @@ def last_line(made: Certificate) -> str:
     text += f"; {made.not_tried:,} more were not tried, because the time was over" if made.not_tried else ""
     not_seen = made.not_seen
     named = ", ".join(not_seen[:NAMED]) + (f" and {len(not_seen) - NAMED} more" if len(not_seen) > NAMED else "")
-    lacks = lacking(made.outcome.checked)
+    lacks = missing(made.outcome)
     text = f"INCOMPLETE: {', '.join(lacks)}; {text}" if lacks else text
     return f"{text}; not seen: {named}" if not_seen else text
 
@@ -111,6 +114,7 @@ def page(made: Certificate, now: datetime) -> Iterator[str]:
         table=clean(shown(checked.table.path)),
         program=program_words(checked.program),
         settings=settings_words(checked.settings, shown),
+        about_inputs=about_inputs(made.outcome, shown),
         last_line=last_line(made),
         not_proved=ABOUT[0].upper() + ABOUT[1:],
         no_statement=NO_STATEMENT,

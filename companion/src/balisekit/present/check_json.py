@@ -66,28 +66,32 @@ def _passed_over(outcome: Outcome) -> Iterator[Dict[str, Any]]:
 
 def entries_json(outcome: Outcome) -> Iterator[Dict[str, Any]]:
     """An object for each entry, in the order of the answer."""
-    for entry in outcome.entries:
-        identity, accepted = outcome.identity(entry), outcome.acceptances(entry)
-        yield {
-            "rule": entry.rule,
-            "rules": list(entry.rules),
-            "proved": letter_of(entry.rule) == PROVED,
-            **_added(entry, paths_from(outcome.checked)),
-            "urgency": entry.urgency.name.lower(),
-            "sentence": entry.sentence,
-            "rows": list(entry.rows),
-            "other_rows": list(entry.other_rows),
-            "also": list(map(_also, entry.remark.also)) if entry.remark else [],
-            "group": entry.group.name if entry.group else None,
-            "nid_c": identity[0] if identity else None,
-            "nid_bg": identity[1] if identity else None,
-            **_place_of(entry),
-            "values": dict(entry.values),
-            "program": list(entry.quoted),
-            "expected": entry.expected or None,
-            "state": "accepted" if accepted else "open",
-            "accepted": [accepted_text.entry_json(each) for each in accepted],
-        }
+    return map(partial(_entry, outcome), outcome.entries)
+
+
+def _entry(outcome: Outcome, entry: Entry) -> Dict[str, Any]:
+    identity, accepted = outcome.identity(entry), outcome.acceptances(entry)
+    return {
+        "rule": entry.rule,
+        "rules": list(entry.rules),
+        "proved": letter_of(entry.rule) == PROVED,
+        **_added(entry, paths_from(outcome.checked)),
+        "urgency": entry.urgency.name.lower(),
+        "sentence": entry.sentence,
+        "rows": list(entry.rows),
+        "other_rows": list(entry.other_rows),
+        "also": list(map(_also, entry.remark.also)) if entry.remark else [],
+        "group": entry.group.name if entry.group else None,
+        "nid_c": identity[0] if identity else None,
+        "nid_bg": identity[1] if identity else None,
+        **_place_of(entry),
+        "values": dict(entry.values),
+        "program": list(entry.quoted),
+        "expected": entry.expected or None,
+        "state": "accepted" if accepted else "open",
+        "accepted": [accepted_text.entry_json(each) for each in accepted],
+        "folded": [_entry(outcome, folded) for folded in entry.folded],
+    }
 
 
 def _added(entry: Entry, shown: Shown) -> Dict[str, Any]:

@@ -28,11 +28,15 @@ def last_line(checked: Checked) -> str:
     """The program's verdict, or that something was left out."""
     if checked.whole and checked.verdict:
         return f'program: "{checked.verdict.line}"'
+    found = f"; findings in the rest: {len(checked.findings)}" if checked.findings else ""
+    return f"INCOMPLETE: {', '.join(missing_in(checked))}{found}"
+
+
+def missing_in(checked: Checked) -> List[str]:
+    """How much was refused, left out, not tried or not read."""
     groups = f"{len(checked.left_out)} of {len(checked.table.groups)} groups left out"
     refused = checked.refused or checked.refused_messages or checked.left_out
-    parts = [*([*refused_counts(checked), groups] if refused else []), *not_looked_at(checked)]
-    found = f"; findings in the rest: {len(checked.findings)}" if checked.findings else ""
-    return f"INCOMPLETE: {', '.join(parts)}{found}"
+    return [*([*refused_counts(checked), groups] if refused else []), *not_looked_at(checked)]
 
 
 def aspects_found(table: Table) -> str:

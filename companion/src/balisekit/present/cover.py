@@ -14,7 +14,7 @@ from balisekit.present.account_text import account_lines
 from balisekit.present.certificate_json import Certified
 from balisekit.present.check_text import aspects_found
 from balisekit.present.links_text import empty_rules
-from balisekit.present.opening import KNOWN, entries_words, paths_from, program_words, settings_words
+from balisekit.present.opening import entries_words, known_words, paths_from, program_words, settings_words
 from balisekit.present.outcome_text import last_lines, not_looked_at, unnamed_lines
 from balisekit.present.refusals import RefusedInput, lacking, not_looked_at as not_tried, refused
 from balisekit.rules.accepted import Judged
@@ -216,8 +216,8 @@ def _inputs(
 
 
 def _program(checked: Checked) -> List[Tuple[str, str]]:
-    """What is known of the program."""
+    """What is known of the program, or of its library if that answered."""
     program = checked.program
     about = [("file", clean(program.path)), ("SHA-256", program.sha256)]
-    about += [(key, value) for key, value in program.about.items() if key != "program"]
-    return about + [("known by", KNOWN[program.known_by])]
+    about += [(key, value) for key, value in program.about.items() if key != program.kind]
+    return about + [("known by", known_words(program))]

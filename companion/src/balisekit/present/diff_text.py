@@ -135,7 +135,7 @@ def _exchanged_json(each: Exchanged) -> Dict[str, Any]:
 
 
 def _changed_json(changed: Changed) -> Dict[str, Any]:
-    changes = [{**each._asdict(), "where": "  ".join(map(str, each.where))} for each in changed.changes]
+    changes = [{**each._asdict(), "where": each.where_words} for each in changed.changes]
     return {"words": changed.words, "row_old": changed.old, "row_new": changed.new, "changes": changes}
 
 

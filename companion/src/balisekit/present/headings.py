@@ -18,6 +18,7 @@ URGENCIES: Dict[Urgency, str] = {
     Urgency.RULE_ONLY: "a rule only:",
 }
 CORRECT = "findings that correct data can get; check each:"
+SHOW_FOLDED = "; --folded lists them"
 
 
 def heading(entry: Entry) -> str:
@@ -67,9 +68,25 @@ def words(entry: Entry) -> str:
     return f"{about(entry)}: {rule}{entry.sentence}{f'; {entry.expected}' if entry.expected else ''}"
 
 
-def entry_lines(entry: Entry) -> List[str]:
-    """An entry, and below it the lines of the program, or where its rule is from if it is not balisekit's."""
-    return [words(entry), *(f"    program: {line}" for line in entry.quoted), *(f"    {line}" for line in added(entry))]
+def entry_lines(entry: Entry, with_folded: bool = False) -> List[str]:
+    """An entry, and below it the lines of the program, or where its rule is from if it is not balisekit's.
+
+    For entries that are folded below it there is a line with their number, and `with_folded` a line for each.
+    """
+    below = [*(f"program: {line}" for line in entry.quoted), *added(entry), *folded_lines(entry, with_folded)]
+    return [words(entry), *(f"    {line}" for line in below)]
+
+
+def folded_lines(entry: Entry, each: bool = True) -> Iterator[str]:
+    """How many findings and remarks are folded below an entry, by rule, then `each` of them."""
+    if not entry.folded:
+        return
+    rules = [f"F{place.finding.rule}" for place in entry.findings]
+    rules += [folded.rule for folded in entry.folded if folded.remark]
+    counts = ", ".join(f"{rule} {count}" for rule, count in Counter(rules).items())
+    number = f"folded below it: {len(entry.folded)} entries ({counts}), gone if it is corrected"
+    yield number if each else f"{number}{SHOW_FOLDED}"
+    yield from (f"  {words(folded)}" for folded in entry.folded if each)
 
 
 def added(entry: Entry) -> List[str]:

@@ -140,7 +140,7 @@ def _not_read(checked: Checked) -> Iterator[Case]:
     for each in checked.table.account.not_judged:
         if not each.asked:
             (text,) = not_judged_lines([each])
-            yield Case("not judged", clean(each.column or each.sheet or ""), "error", clean(each.why), text)
+            yield Case("not judged", clean(", ".join(each.columns) or each.sheet or ""), "error", clean(each.why), text)
 
 
 def _bad_messages(checked: Checked) -> Iterator[Case]:

@@ -19,12 +19,13 @@ from balisekit.tables.names import clean, counted, quoted
 from balisekit.tables.settings import Setting, Settings, Source
 
 KNOWN = {
-    ABOUT: "the program of this balisekit, by ABOUT",
+    ABOUT: "the {kind} of this balisekit, by ABOUT",
     RELEASES: "a released program by RELEASES, but not the program of this balisekit",
     SOURCES: "not a released program: it was built from the sources of this clone",
     "": "not a released program: it was named by --program",
 }
 """What is said of a program, by what its checksum is known by."""
+NAMES = {"program": "balisecheck", "library": "libbalisecheck"}
 PLAIN = re.compile("[-+/.,A-Za-z0-9_]*")
 """A value that needs no quotes."""
 DEFAULTS = "all have their defaults"
@@ -55,9 +56,15 @@ def opening_of(program: Program, settings: Settings, shown: Shown = str) -> List
 
 
 def program_words(program: Program) -> str:
-    """Which program answered, and whether it is a released one."""
+    """Which program or library answered, and whether it is a released one."""
+    name = NAMES[program.kind]
     version = f" {program.about['version']}" if "version" in program.about else ""
-    return f"balisecheck{version}, SHA-256 {program.sha256}: {KNOWN[program.known_by]}"
+    return f"{name}{version}, SHA-256 {program.sha256}: {known_words(program)}"
+
+
+def known_words(program: Program) -> str:
+    """Whether what answered is a released program, or its library."""
+    return KNOWN[program.known_by].format(kind=program.kind)
 
 
 def settings_words(settings: Settings, shown: Shown = str) -> str:
@@ -89,9 +96,9 @@ def entries_words(judged: Judged, shown: Shown = str) -> str:
 
 
 def program_json(program: Program) -> Dict[str, str]:
-    """The program for other tools."""
-    about = {name: value for name, value in program.about.items() if name != "program"}
-    return {"path": program.path, "sha256": program.sha256, "known_by": program.known_by, **about}
+    """The program or library for other tools."""
+    about = {name: value for name, value in program.about.items() if name != program.kind}
+    return {"kind": program.kind, "path": program.path, "sha256": program.sha256, "known_by": program.known_by, **about}
 
 
 def settings_json(settings: Settings, shown: Shown) -> List[Dict[str, Any]]:

@@ -8,7 +8,13 @@ from balisekit.io.inputs import is_python
 from balisekit.present import headings
 from balisekit.present.account_text import account_lines
 from balisekit.present.accepted_text import accepted_words, fault_lines, verdict_lines
-from balisekit.present.check_text import aspects_found, head_line, last_line as last_line_of_program, left_out_lines
+from balisekit.present.check_text import (
+    aspects_found,
+    head_line,
+    last_line as last_line_of_program,
+    left_out_lines,
+    missing_in,
+)
 from balisekit.present.explanations import Page, page_lines, pages
 from balisekit.present.links_text import compared, empty_rules, found, how_many_compared, not_compared
 from balisekit.present.opening import Shown, opening, paths_from
@@ -61,6 +67,10 @@ class Kind(Enum):
     VERDICT = "how much is open, and the verdict"
 
 
+ABOUT_INPUTS = frozenset({Kind.ACCEPTED, Kind.TABLE, Kind.REFUSED, Kind.LEFT_OUT, Kind.NOT_TRIED, Kind.NOT_DECODED})
+ABOUT_INPUTS |= {Kind.NOT_APPLIED, Kind.FAULT, Kind.OF_ENTRIES, Kind.ACCOUNT}
+
+
 class AnswerLine(NamedTuple):
     """A line of an answer."""
 
@@ -71,13 +81,17 @@ class AnswerLine(NamedTuple):
 
 
 def lines(
-    outcome: Outcome, explained: bool = False, proposed: bool = False, notes: Sequence[str] = ()
+    outcome: Outcome,
+    explained: bool = False,
+    proposed: bool = False,
+    notes: Sequence[str] = (),
+    with_folded: bool = False,
 ) -> Iterator[str]:
     """The answer in words. With `proposed`, or with a file of entries, it lists items that no entry can name.
 
-    `notes` are on what else was written.
+    `notes` are on what else was written. `with_folded` also lists the entries that are folded below another one.
     """
-    return without_reasons(answer(outcome, str, explained, proposed, notes))
+    return without_reasons(answer(outcome, str, explained, proposed, notes, with_folded=with_folded))
 
 
 def without_reasons(some: Iterable[AnswerLine]) -> Iterator[str]:
@@ -98,6 +112,7 @@ def answer(
     proposed: bool = False,
     notes: Sequence[str] = (),
     has_entries: bool = True,
+    with_folded: bool = False,
 ) -> Iterator[AnswerLine]:
     """All lines of an answer, with paths as they are `shown`, or those that are about no entry."""
     checked, judged, table = outcome.checked, outcome.judged, outcome.checked.table
@@ -109,10 +124,11 @@ def answer(
     yield from _of(Kind.NOT_TRIED, (f"and {count}: --all continues" for count in not_tried(checked)))
     for part in outcome.parts:
         if outcome.letters != PROVED:
-            yield AnswerLine(Kind.TITLE, f"{part.family.title}:{'' if part.items else ' none'}")
-        yield from _entries(outcome, part) if has_entries else ()
+            none = " all folded below other entries" if part.items and not part.entries else ""
+            yield AnswerLine(Kind.TITLE, f"{part.family.title}:{none if part.items else ' none'}")
+        yield from _entries(outcome, part, with_folded) if has_entries else ()
         yield from behind(outcome, part)
-    yield from _listed(outcome.expected) if has_entries else ()
+    yield from _listed(outcome.expected, with_folded) if has_entries else ()
     yield from _of(Kind.PAGE, page_lines(explained_rules(outcome)) if explained else ())
     yield from _of(Kind.NOT_DECODED, not_decoded(outcome))
     yield from _of(Kind.LOOK, remarks(table))
@@ -139,9 +155,9 @@ def _closing(outcome: Outcome, shown: Shown) -> Iterator[AnswerLine]:
     yield from _of(Kind.VERDICT, last_lines(outcome))
 
 
-def _entries(outcome: Outcome, part: Part) -> Iterator[AnswerLine]:
+def _entries(outcome: Outcome, part: Part, with_folded: bool) -> Iterator[AnswerLine]:
     """The entries of a part, the open ones first. Open ones of correct data are not here."""
-    yield from _listed([entry for entry in part.open if not entry.expected])
+    yield from _listed([entry for entry in part.open if not entry.expected], with_folded)
     yield from _of(Kind.TITLE, ["accepted:"] if part.accepted else [])
     for entry in part.accepted:
         yield from _of(Kind.ENTRY, headings.entry_lines(entry))
@@ -161,11 +177,11 @@ def behind(outcome: Outcome, part: Part) -> Iterator[AnswerLine]:
         yield from _of(Kind.APPLIED, [f"applied: {', '.join(rule.name for rule in part.family.rules)}"], part)
 
 
-def _listed(entries: Sequence[Entry]) -> Iterator[AnswerLine]:
+def _listed(entries: Sequence[Entry], with_folded: bool) -> Iterator[AnswerLine]:
     """Entries below the heading of their urgency."""
     for heading, entry in zip(headings.first_of_each(entries), entries):
         yield from _of(Kind.TITLE, [heading] if heading else [])
-        yield from _of(Kind.ENTRY, headings.entry_lines(entry))
+        yield from _of(Kind.ENTRY, headings.entry_lines(entry, with_folded))
 
 
 def not_decoded(outcome: Outcome) -> Iterator[str]:
@@ -239,6 +255,17 @@ def _found(part: Part, applied: Applied) -> str:
     """What the rules of a part have found, and how much was compared with a track plan."""
     counts = f", {how_many_compared(applied)}" if part.family.letter == PLAN else ""
     return f"{part.family.things}: {found(applied)}{counts}"
+
+
+def about_inputs(outcome: Outcome, shown: Shown = str) -> List[str]:
+    """The lines of an answer on how the inputs were read, and on what was not judged: not on what was found."""
+    return [line.text for line in answer(outcome, shown, has_entries=False) if line.kind in ABOUT_INPUTS]
+
+
+def missing(outcome: Outcome) -> List[str]:
+    """What makes an answer INCOMPLETE: what was refused, left out or not read, and rules that compared nothing."""
+    empty = [text for part in outcome.parts if part.applied for text in empty_rules(part.applied).values()]
+    return [*missing_in(outcome.checked), *empty]
 
 
 def verdict(outcome: Outcome) -> str:

@@ -5,6 +5,7 @@ from typing import Iterator, List, NamedTuple, Optional, Sequence
 
 from balisekit.engine.grammar import Refusal
 from balisekit.etcs.layout import Field, bits_of, message_fields, telegram_fields, user_bits
+from balisekit.present.account_text import POSSIBLE
 from balisekit.rules.checking import Checked
 from balisekit.tables.model import Table
 from balisekit.tables.names import counted, describe_balise, describe_message, ordinal, quoted
@@ -73,10 +74,14 @@ def not_looked_at(checked: Checked) -> List[str]:
 def overlooked(table: Table) -> List[str]:
     """How many telegrams are in columns or sheets that are not read, although no option asked for that.
 
-    Formulas whose values are not stored are counted by themselves.
+    Rows that could hold one, and formulas whose values are not stored, are counted by themselves.
     """
     where, account = "in columns or sheets that are not read", table.account
-    counts = ((account.overlooked, "telegram", where), (account.unknown, "formula", "without a stored value"))
+    counts = (
+        (account.overlooked, "telegram", where),
+        (account.possible, POSSIBLE, where),
+        (account.unknown, "formula", "without a stored value"),
+    )
     return [f"{counted(count, what)} {which}" for count, what, which in counts if count]
 
 

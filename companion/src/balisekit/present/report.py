@@ -46,16 +46,13 @@ class Listed(NamedTuple):
     signatures: Sequence[Signature]
     heading: str
     """The heading above it, if it is the first entry under that."""
-
-    @property
-    def quoted(self) -> Sequence[str]:
-        """The lines below it: those of the program, or where its rule is from."""
-        return [*self.entry.quoted, *headings.added(self.entry)]
+    quoted: Sequence[str]
+    """The lines below it: those of the program, where its rule is from, or the entries that are folded below it."""
 
     @property
     def items(self) -> int:
-        """How many findings it has. A remark is one."""
-        return len(self.entry.findings) or 1
+        """How many findings it has. A remark is one. Those of entries that are folded below it count for these."""
+        return 0 if self.entry.folded else len(self.entry.findings) or 1
 
 
 class ListedPart(NamedTuple):
@@ -68,11 +65,13 @@ class ListedPart(NamedTuple):
     """The lines after the entries: how many there are, or notes and what was compared."""
     none: str = "None"
     """The text if there are no entries."""
+    folded: Sequence[Listed] = ()
+    """Those that are folded below one of the open ones: the blocks of their own groups have them."""
 
     @property
     def all(self) -> Sequence[Listed]:
         """All of them, the open ones first."""
-        return [*self.open, *self.accepted]
+        return [*self.open, *self.folded, *self.accepted]
 
 
 def listed(outcome: Outcome) -> List[ListedPart]:
@@ -94,7 +93,8 @@ def _listed_part(outcome: Outcome, part: Part, ids: Mapping[str, str]) -> Listed
     )
     title = part.family.title[0].upper() + part.family.title[1:]
     none = "None" + " but those of correct data" * any(entry.expected for entry in part.open)
-    return ListedPart(title, still_open, accepted, list(without_reasons(behind(outcome, part))), none)
+    folded = [_listed(each, ids, "", ()) for entry in part.open for each in entry.folded]
+    return ListedPart(title, still_open, accepted, list(without_reasons(behind(outcome, part))), none, folded)
 
 
 def _listed(entry: Entry, ids: Mapping[str, str], heading: str, acceptances: Sequence[Acceptance]) -> Listed:
@@ -104,9 +104,11 @@ def _listed(entry: Entry, ids: Mapping[str, str], heading: str, acceptances: Seq
     links += [PageLink(packet_id(*place), "packet") for place in packets_of(entry)]
     links += [PageLink(rule, rule) for rule in entry.rules]
     signatures = [_signature(each) for each in acceptances]
-    return Listed(
-        entry, headings.words(entry), block, links, list(map(accepted_words, acceptances)), signatures, heading
-    )
+    quoted = [*entry.quoted, *headings.added(entry), *headings.folded_lines(entry)]
+    # (the pictures of their own groups show folded entries)
+    shown = entry._replace(findings=(), remark=None) if entry.folded else entry
+    reasons = list(map(accepted_words, acceptances))
+    return Listed(shown, headings.words(entry), block, links, reasons, signatures, heading, quoted)
 
 
 def _signature(entry: Acceptance) -> Signature:

@@ -87,6 +87,7 @@ def document(outcome: Outcome) -> Object:
     checked = outcome.checked
     about = {
         "program": checked.program.version,
+        "programKind": checked.program.kind,
         "programSha256": checked.program.sha256,
         "programKnownBy": checked.program.known_by,
         "settings": settings_json(checked.settings, paths_from(checked)),
@@ -172,7 +173,7 @@ def _not_read(outcome: Outcome, lines: Lines) -> Iterator[Object]:
         if not each.asked:
             (text,) = not_judged_lines([each])
             location = _location(table.path, each.rows, lines)
-            yield _result(NOT_JUDGED, "error", text, [location], f"{each.sheet} {each.column}")
+            yield _result(NOT_JUDGED, "error", text, [location], f"{each.sheet} {', '.join(each.columns) or None}")
 
 
 def _not_compared(outcome: Outcome, lines: Lines) -> Iterator[Object]:
@@ -207,7 +208,7 @@ def _entries(outcome: Outcome, lines: Lines) -> Iterator[Object]:
     for entry in outcome.entries:
         link = entry.remark.location.link if entry.remark else None
         own = sorted(names[id(item)] for item in items_of(entry))
-        text = "\n".join(entry_lines(entry))
+        text = "\n".join(entry_lines(entry, with_folded=True))
         result = _result(entry.rule, LEVELS[entry.urgency], text, _locations(outcome, entry, lines), f"{own} {link}")
         result["properties"] = {"urgency": entry.urgency.name.lower(), "values": dict(entry.values)}
         if entry.remark and entry.remark.origin:

@@ -18,6 +18,7 @@ from balisekit.tables.names import clean, describe_balise, quoted
 NUMBERS = ("balise", "raw", "value")
 """The columns whose numbers are stored as numbers in an .xlsx."""
 ENTRIES = ("rule", "urgency", "identity", "group", "rows", "values", "sentence", "owner", "state", "reason")
+FOLDED_ABOVE = "{} entries are folded below it, in the next rows"
 WIDTHS = (6, 18, 12, 24, 12, 32, 80, 16, 10, 40)
 """Of the columns of ENTRIES, in characters."""
 
@@ -80,12 +81,18 @@ def lines(checked: Checked, compared: Compared) -> Iterator[str]:
 
 def entries_pieces(outcome: Outcome) -> Iterator[bytes]:
     """The workbook of entries. NoAnswer is raised if the package that writes it is absent."""
-    rows = ([clean(text) or None for text in _row(outcome, entry)] for entry in outcome.entries)
+    rows = ([clean(text) or None for text in row] for entry in outcome.entries for row in _rows(outcome, entry))
     answer = [line.text for line in lines_but(outcome, Kind.ENTRY)]
     return xlsx_writing.pieces("entries", ENTRIES, rows, WIDTHS, "an .xlsx", answer, outcome.status != 2)
 
 
-def _row(outcome: Outcome, entry: Entry) -> List[str]:
+def _rows(outcome: Outcome, entry: Entry) -> Iterator[List[str]]:
+    """An entry, and the entries that are folded below it."""
+    yield _row(outcome, entry, FOLDED_ABOVE.format(len(entry.folded)) if entry.folded else "")
+    yield from (_row(outcome, folded, state="folded") for folded in entry.folded)
+
+
+def _row(outcome: Outcome, entry: Entry, more: str = "", state: str = "") -> List[str]:
     """One entry. The team writes in who looks after an open one."""
     identity, accepted = outcome.identity(entry), outcome.acceptances(entry)
     about = entry.group.name if entry.group else entry.message.name if entry.message else ""
@@ -96,8 +103,8 @@ def _row(outcome: Outcome, entry: Entry) -> List[str]:
         about,
         ", ".join(map(str, entry.rows)),
         "; ".join(f"{name} {value}" for name, value in entry.values.items()),
-        "; ".join([entry.sentence, *added(entry)]),
+        "; ".join([entry.sentence, *added(entry), *([more] if more else [])]),
         "; ".join(dict.fromkeys(each.who for each in accepted)),
-        "accepted" if accepted else "open",
+        state or ("accepted" if accepted else "open"),
         "; ".join(dict.fromkeys(each.reason for each in accepted)),
     ]

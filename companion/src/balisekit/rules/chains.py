@@ -41,10 +41,15 @@ class Chain(NamedTuple):
 class GivenProfile(NamedTuple):
     """A gradient or static speed profile that is given with a movement authority."""
 
-    location: Location
+    passage: Passage
     packet: Packet
     is_late: bool
     """Whether the track before it has no other profile of its kind, in an aspect at least."""
+
+    @property
+    def location(self) -> Location:
+        """Where it is."""
+        return self.passage.at(self.packet)
 
 
 @dataclass
@@ -81,7 +86,7 @@ def _add_profiles(profiles: Dict[Key, GivenProfile], passage: Passage, packets: 
     for packet in own:
         key = packet.row.number if packet.row else 0, packet.place, passage.direction
         is_late = packet.number not in at_once or key in profiles and profiles[key].is_late
-        profiles[key] = GivenProfile(passage.at(packet), packet, is_late)
+        profiles[key] = GivenProfile(passage, packet, is_late)
 
 
 def chains_of(groups: Sequence[GroupData], messages: Sequence[Passage]) -> Chains:

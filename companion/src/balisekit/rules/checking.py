@@ -250,7 +250,7 @@ class Checked:
     def whole(self) -> bool:
         """Whether all that is in the file, and was not left out by an option, has been checked."""
         is_checked = not (self.refused or self.refused_messages or self.left_out or self.not_looked_at)
-        return is_checked and not (self.table.account.overlooked or self.table.account.unknown)
+        return is_checked and self.table.account.is_whole
 
     @property
     def status(self) -> int:

@@ -21,7 +21,7 @@ from balisekit.rules.chainage import Chainage, Jump
 from balisekit.rules.chains import Chains, chains_of, take_directions
 from balisekit.rules.location import NOT_KNOWN, BaliseGroup, Identity
 from balisekit.rules.passages import GroupData, Passage, passage_of
-from balisekit.rules.telegrams import LINKING, SAYS_NOTHING, Link, Packet, Telegram, holding, packets_of_message
+from balisekit.rules.telegrams import LINKING, Link, Packet, Telegram, holding, packets_of_message
 from balisekit.tables.model import Group, Message
 
 METRES = 3
@@ -74,21 +74,27 @@ class Decoded:
         return [passage for passage in self.passages if passage.lacks]
 
     @cached_property
-    def sent(self) -> Mapping[int, Sequence[Tuple[Owner, Packet]]]:
-        """By NID_PACKET: each packet once, with the group or the message that sends it."""
-        found: Dict[int, List[Tuple[Owner, Packet]]] = {}
+    def senders(self) -> Mapping[int, Sequence[GroupData]]:
+        """By NID_PACKET: the groups that send such packets."""
+        found: Dict[int, List[GroupData]] = {}
         for data in self.groups:
+            packets = (packet for telegram in data.telegrams.values() for packet in telegram.packets)
+            for number in dict.fromkeys(packet.number for packet in packets):
+                found.setdefault(number, []).append(data)
+        return found
+
+    def sent(self, number: int) -> Iterator[Tuple[Owner, Packet]]:
+        """Each packet with this NID_PACKET once, and who sends it: those of groups, then those of messages."""
+        for data in self.senders.get(number, ()):
             for telegram in data.telegrams.values():
-                for packet in telegram.packets:
-                    found.setdefault(packet.number, []).append((data, packet))
+                yield from ((data, packet) for packet in telegram.packets if packet.number == number)
         seen: Set[int] = set()
         for passage in self.messages:
             reference = [passage.reference] if passage.reference else []
             for packet in (*passage.said, *reference, *passage.infill):
-                if id(packet) not in seen:
+                if packet.number == number and id(packet) not in seen:
                     seen.add(id(packet))
-                    found.setdefault(packet.number, []).append((passage, packet))
-        return found
+                    yield passage, packet
 
     @cached_property
     def by_identity(self) -> Mapping[Identity, GroupData]:
@@ -196,14 +202,7 @@ def _balise_group(number: int, group: Group, telegrams: Mapping[int, Telegram]) 
     unread = () if is_read else tuple(sorted({row.number for row in rows} - telegrams.keys()))
     first = telegrams[read[0].number] if read else None
     identity, linked = (first.identity, bool(first.header.q_link)) if first else (None, None)
-    said = [telegram.holding for telegram in telegrams.values() if telegram.packets]
-    says = (_says(own[0] for own in said), _says(own[1] for own in said)) if said else (False, False)
-    return BaliseGroup(number, group, balises, identity, linked, km, rising, track, unread, says=says)
-
-
-def _says(packets: Iterable[Sequence[Packet]]) -> bool:
-    """Whether any of these says anything of the track. Packet 0 does not."""
-    return any(packet.number not in SAYS_NOTHING for own in packets for packet in own)
+    return BaliseGroup(number, group, balises, identity, linked, km, rising, track, unread)
 
 
 class _Links:

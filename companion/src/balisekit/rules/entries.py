@@ -47,12 +47,15 @@ class Entry(NamedTuple):
     """The balises that it is about."""
     other_rows: Tuple[int, ...] = ()
     """The rows that the sentence names beside its own."""
+    folded: Tuple[Entry, ...] = ()
+    """The entries that one correction explains, if this entry stands for them. Its findings are theirs."""
 
     @property
     def rules(self) -> Sequence[str]:
         """The rules of its findings: an exchange of telegrams may break several."""
         numbers = sorted({place.finding.rule for place in self.findings})
-        return [f"F{number}" for number in numbers] or [self.rule]
+        others = [entry.rule for entry in self.folded if not entry.findings]
+        return [*(f"F{number}" for number in numbers), *dict.fromkeys(others)] or [self.rule]
 
     @property
     def quoted(self) -> Sequence[str]:

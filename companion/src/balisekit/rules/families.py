@@ -8,13 +8,16 @@ import time
 from dataclasses import dataclass, replace
 from datetime import date
 from functools import cached_property, partial
-from typing import Iterator, Mapping, NamedTuple, Optional, Sequence, Tuple
+from typing import AbstractSet, Iterator, List, Mapping, NamedTuple, Optional, Sequence, Tuple
 
 from balisekit.engine.grammar import Verdict
 from balisekit.rules import links, meaning, track_plan
 from balisekit.rules.accepted import RULES, Acceptance, Entries, Item, Judged, identities, judge
 from balisekit.rules.applied import Applied, Notes, look_for, no_notes
-from balisekit.rules.checking import Checked, Place
+from balisekit.rules.checking import Checked, Place, check
+from balisekit.rules.corrections import SUGGESTIONS
+from balisekit.rules.corrections.correction import Correction, Evidence
+from balisekit.rules.corrections.trying import LEAST, Again, Answer, explained
 from balisekit.rules.discovery import ADDED, first_to_last, letter_of
 from balisekit.rules.entries import Entry, entries, entry_of
 from balisekit.rules.line import Line
@@ -23,6 +26,7 @@ from balisekit.rules.passed_over import Find, nothing
 from balisekit.rules.rule import Options, Remark, Result, Rule
 from balisekit.rules.statements.scene import BaliseName
 from balisekit.tables.account import Account
+from balisekit.tables.model import Table
 
 PROVED, PLAN = "F", "X"
 """The family of the program, and the one that needs a track plan."""
@@ -215,7 +219,9 @@ class Outcome:
 
 
 def items_of(entry: Entry) -> Sequence[Item]:
-    """The findings or the remark of an entry."""
+    """The findings or the remark of an entry, or those of all entries for which it stands."""
+    if entry.folded:
+        return [item for each in entry.folded for item in items_of(each)]
     remark: Sequence[Item] = (entry.remark,) if entry.remark else ()
     return remark or entry.findings
 
@@ -226,11 +232,13 @@ def apply(
     options: Options,
     signed: Optional[Tuple[Entries, date]] = None,
     began: Optional[float] = None,
+    with_causes: bool = True,
 ) -> Outcome:
     """What the rules of these families find. Rules over the line are not applied to a table without kilometres.
 
     `signed` has the accepted entries, and the day of the run. `began` is when the command began, by
-    time.perf_counter(): that time belongs to the first part.
+    time.perf_counter(): that time belongs to the first part. Without `with_causes` no entry stands for several others
+    that one correction explains.
     """
     has_kilometres = any(row.km is not None for row in checked.table.rows)
     known = families(options)
@@ -245,7 +253,80 @@ def apply(
     off = [rule.name for rule in options.added if rule.name not in on]
     outside = sorted((options.asked & on) - applied_rules)
     found = [_with_entries(checked, part, judged) for part in parts]
+    if with_causes:
+        found = _with_causes(checked, found, partial(_judged_again, checked, letters, options), options)
     return Outcome(checked, found, judged, able != asked, off, options.replaced, outside)
+
+
+def _judged_again(checked: Checked, letters: Sequence[str], options: Options, table: Table) -> Answer:
+    """What the same rules find of a corrected table, whatever was accepted."""
+    made = check(checked.program, table, checked.messages, table.reading.by_position)
+    return _answer(apply(made, letters, options, with_causes=False).parts, made)
+
+
+def _answer(parts: Sequence[Part], checked: Checked) -> Answer:
+    """What corrections are compared by."""
+    skipped = {rule.name: each.skipped for part in parts if part.applied for rule, each in part.applied.results.items()}
+    refused = len(checked.refused) + len(checked.left_out) + checked.not_looked_at
+    return Answer([entry for part in parts for entry in part.entries], skipped, refused)
+
+
+def _with_causes(checked: Checked, parts: Sequence[Part], again: Again, options: Options) -> List[Part]:
+    """The same parts. Open entries that one correction explains are folded below one entry, but no added rule's."""
+    own = [part for part in parts if part.family.letter != ADDED]
+    still_open = [entry for part in own for entry in part.open if not entry.expected]
+    line = next((part.applied.line for part in parts if part.applied), None)
+    if len(still_open) < LEAST or line is None:
+        return list(parts)
+    evidence = Evidence(checked, line, options, still_open)
+    found = explained(evidence, _answer(parts, checked), again, SUGGESTIONS)
+    made = [_standing_for(checked, *each) for each in found]
+    line.for_pictures()
+    folded = {id(entry) for cause in made for entry in cause.folded}
+    return [_with_causes_of(part, made, folded) for part in parts] if made else list(parts)
+
+
+def _with_causes_of(part: Part, made: Sequence[Entry], folded: AbstractSet[int]) -> Part:
+    """A part with the entries that stand for others, each in the family of its rule."""
+    others = [entry for entry in part.open if id(entry) not in folded]
+    own = [cause for cause in made if letter_of(cause.rule) == part.family.letter]
+    return part._replace(open=sorted([*own, *others], key=lambda entry: (bool(entry.expected), entry.urgency)))
+
+
+def _standing_for(checked: Checked, correction: Correction, entries: Sequence[Entry]) -> Entry:
+    """The entry for a correction, which stands for the entries that it explains. It has the rule of the first one.
+
+    If only the place is known, it is the first entry there, and says without what all of them are gone.
+    """
+    numbers = {row for each in entries for row in (*each.rows, *each.other_rows)}
+    quoted = {id(place) for each in entries for place in each.findings}
+    first = entries[0]
+    row = correction.group.row(correction.rows[0])
+    made = first._replace(
+        sentence=correction.sentence,
+        rows=correction.rows,
+        group=correction.group,
+        aspects=(),
+        balise=None,
+        packet=None,
+        direction="",
+        km=row.km if row else None,
+        message=None,
+        values=correction.values,
+        balises=(),
+    )
+    if correction.is_only_place:
+        same = (each for each in entries if letter_of(each.rule) == letter_of(first.rule))
+        first = next((each for each in same if not set(correction.rows).isdisjoint(each.rows)), first)
+        words = f"{first.sentence}; without {correction.sentence} all {len(entries)} entries are gone"
+        rows = first.rows if not set(correction.rows).isdisjoint(first.rows) else correction.rows
+        made = first._replace(sentence=words, rows=rows)
+    return made._replace(
+        urgency=min(each.urgency for each in entries),
+        findings=tuple(place for place in checked.findings if id(place) in quoted),
+        other_rows=tuple(sorted(numbers - set(made.rows))),
+        folded=tuple(entries),
+    )
 
 
 def families(options: Options) -> Mapping[str, Family]:
@@ -296,6 +377,7 @@ def _looked_at(checked: Checked, applied: Sequence[Family], options: Options, be
         if family.letter == ADDED:
             line.for_pictures()  # (the views of added rules need memory)
         found = look_for(line, options, family.rules, family.notes, family.passed_over)
+        line.after_links()  # (the next rules need memory)
         found = replace(found, notes=(*line.not_applied, *found.notes)) if is_first else found
         yield Part(family, found.remarks, time.perf_counter() - begin, found)
     if line:
@@ -330,7 +412,7 @@ def entry_of_remark(remark: Remark) -> Entry:
     return Entry(
         remark.rule,
         RULES[remark.rule].urgency if remark.urgency is None else remark.urgency,
-        f"{where.packet_words}{remark.words}",
+        ": ".join(filter(None, (where.packet_words, remark.words))),
         numbers,
         group.group if group else None,
         tuple(remark.aspects) or aspects,

@@ -125,6 +125,11 @@ class Line:
         for number, row in rows.items():
             yield telegram_of(row, self.forms[number])
 
+    def after_links(self) -> None:
+        """Lets go of what only rules L ask for."""
+        for name in ("alike", "_linked"):
+            vars(self).pop(name, None)
+
     def for_pictures(self) -> None:
         """Works out what pictures need, and lets go of `decoded`, which takes most of the memory."""
         if "decoded" in vars(self):

@@ -93,12 +93,12 @@ class Location(NamedTuple):
 
     @property
     def packet_words(self) -> str:
-        """The packet by its NID_PACKET and its place, and the link, for the beginning of a sentence."""
+        """The packet by its NID_PACKET and its place, and the link; nothing without a packet."""
         if self.packet is None or self.number is None:
             return ""
         where = "telegram" if self.message is None else "message"
         words = f"packet {self.number} ({packet_name(self.number)}), {ordinal(self.packet)} in the {where}"
-        return f"{words}, {ordinal(self.link)} link: " if self.link is not None else f"{words}: "
+        return words if self.link is None else f"{words}, {ordinal(self.link)} link"
 
     def __str__(self) -> str:
         parts = []
@@ -107,7 +107,7 @@ class Location(NamedTuple):
         elif self.group is not None:
             group, row = self.group.group, self.row
             parts.append(describe_group(group) if row is None else describe_balise(group, row, self.n_pig))
-        return "  ".join(filter(None, [*parts, self.direction, self.packet_words[: -len(": ")]]))
+        return "  ".join(filter(None, [*parts, self.direction, self.packet_words]))
 
 
 def incomparable(one: Optional[BaliseGroup], other: Optional[BaliseGroup]) -> str:

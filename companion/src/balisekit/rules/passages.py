@@ -6,12 +6,20 @@ follows a packet 136 counts from the group that it names, and not from the group
 from __future__ import annotations
 
 from dataclasses import dataclass
-from functools import cached_property
 from typing import Iterator, List, Mapping, Optional, Sequence
 
 from balisekit.etcs.geometry import DIRECTIONS, in_order, until_infill
 from balisekit.rules.location import IN_JUMP, NO_DIRECTION, NO_KILOMETRE, NOT_IN_TABLE, BaliseGroup, Location
-from balisekit.rules.telegrams import AUTHORITIES, LINKING, SAYS_NOTHING, WITHOUT_DIRECTION, Link, Packet, Telegram
+from balisekit.rules.telegrams import (
+    AUTHORITIES,
+    LINKING,
+    SAYS_NOTHING,
+    WITHOUT_DIRECTION,
+    Link,
+    Packet,
+    Telegram,
+    holding,
+)
 from balisekit.tables.model import Message, Row
 
 
@@ -19,6 +27,7 @@ from balisekit.tables.model import Message, Row
 class Passage:
     """What a train gets that passes a group in one aspect and direction, or that is sent a message 3."""
 
+    __slots__ = ("group", "aspect", "direction", "said", "reference", "infill", "message")
     group: Optional[GroupData]
     """The group from which its distances count. It is None for a message whose group is not in the table."""
     aspect: str
@@ -26,13 +35,13 @@ class Passage:
     direction: str
     said: Sequence[Packet]
     """The packets before a packet 136, in the order of passing, without those of silent balises."""
-    reference: Optional[Packet] = None
+    reference: Optional[Packet]
     """The first packet 136."""
-    infill: Sequence[Packet] = ()
+    infill: Sequence[Packet]
     """The packets that follow it: their distances count from the group that it names."""
-    message: Optional[Message] = None
+    message: Optional[Message]
 
-    @cached_property
+    @property
     def way(self) -> Optional[int]:
         """1 if the passage goes towards greater kilometres, -1 if towards lower ones."""
         return self.group.group.along(self.direction) if self.group else None
@@ -49,7 +58,7 @@ class Passage:
     @property
     def speaks(self) -> bool:
         """Whether a packet before a packet 136 says anything of the track."""
-        return any(packet.number not in SAYS_NOTHING for packet in self.said)
+        return _says(self.said)
 
     @property
     def track(self) -> str:
@@ -101,10 +110,9 @@ class GroupData:
     """Each aspect all telegrams of which were read, in both directions: those that give a train anything."""
 
     def __post_init__(self) -> None:
-        for telegram in self.telegrams.values():
-            if telegram.packets:
-                self.passages = list(self._passages())
-                return
+        own = {number: holding(telegram.packets) for number, telegram in self.telegrams.items() if telegram.packets}
+        self.group.says = tuple(any(map(_says, packets)) for packets in zip(*own.values())) or (False, False)
+        self.passages = tuple(self._passages(own)) if own else ()
 
     @property
     def place(self) -> Optional[int]:
@@ -120,15 +128,19 @@ class GroupData:
                     return packet
         return None
 
-    def _passages(self) -> Iterator[Passage]:
-        """What a train gets of each aspect in both directions, if that is anything."""
+    def _passages(self, own: Mapping[int, Sequence[Sequence[Packet]]]) -> Iterator[Passage]:
+        """What a train gets of each aspect in both directions, if that is anything.
+
+        Of each row with packets `own` has those that hold in each of the DIRECTIONS.
+        """
         for aspect in self.group.group.aspects:
             telegrams = [self.telegrams[row.number] for row in aspect.rows if row.number in self.telegrams]
             if len(telegrams) < len(aspect.rows):
                 continue
             flags = [telegram.header.m_dup for telegram in telegrams]
             for index, direction in enumerate(DIRECTIONS):
-                packets = in_order(flags, [telegram.holding[index] for telegram in telegrams], direction)
+                said = [own[row.number][index] if row.number in own else () for row in aspect.rows]
+                packets = in_order(flags, said, direction)
                 passage = passage_of(self, aspect.name, direction, packets)
                 if passage.said or passage.infill:
                     yield passage
@@ -141,6 +153,11 @@ class GroupData:
     def of_packet(self, packet: Packet) -> Location:
         """Where one of its packets is, for a remark about no direction."""
         return Location(self.group, packet.row, None, packet.place, "", None, packet.number, packet.n_pig)
+
+
+def _says(packets: Sequence[Packet]) -> bool:
+    """Whether any of these says anything of the track. Packet 0 does not."""
+    return any(packet.number not in SAYS_NOTHING for packet in packets)
 
 
 def passage_of(

@@ -6,7 +6,6 @@ from __future__ import annotations
 
 import json
 from dataclasses import dataclass
-from functools import cached_property
 from itertools import accumulate, chain, islice
 from typing import Callable, Dict, Iterable, Iterator, List, NamedTuple, Optional, Sequence, Tuple, cast
 
@@ -21,8 +20,6 @@ from balisekit.tables.model import Row
 
 LINKING, GRADIENTS, SPEEDS, LEVELS = 5, 21, 27, 41
 AUTHORITIES = (12, 15)
-NONE: Sequence[Sequence[Packet]] = ((), ())
-"""What a telegram without packets says in each of the DIRECTIONS."""
 HOLDING = ((1,), (0,), (0, 1))
 """By Q_DIR: the places in DIRECTIONS of those in which a packet holds. Packet 0, without Q_DIR, holds in both."""
 WITHOUT_DIRECTION = (44, 145, 254)
@@ -76,43 +73,45 @@ class Stretch(NamedTuple):
 
 @dataclass(eq=False)
 class Packet:
-    """A packet of a telegram or message."""
+    """A packet of a telegram or message. (A large table has very many, so they have no dictionary.)"""
 
+    __slots__ = ("number", "place", "form", "row", "n_pig", "links", "_stretches")
     number: int
     """NID_PACKET."""
     place: int
     """In its telegram or message, counted from 0."""
     form: Form
     """Its fields. A packet that is kept as bits has those of its layout beside `body`, if the layout is known."""
-    row: Optional[Row] = None
+    row: Optional[Row]
     """The row of its telegram. A message has none."""
-    n_pig: Optional[int] = None
-    links: Sequence[Link] = ()
+    n_pig: Optional[int]
+    links: Sequence[Link]
     """Of a packet 5, once all groups of the table are known. Equal packets of one country or region share them."""
+    _stretches: Optional[Tuple[Stretch, ...]]
 
     @property
     def unit(self) -> int:
         """The unit of its distances in decimetres, by Q_SCALE."""
         return UNITS[self.form.get("q_scale", 0)]
 
-    @cached_property
+    @property
     def end(self) -> int:
         """Of a packet 12 or 15: how far the authority goes."""
         return geometry.end_of(self.form)
 
-    @cached_property
+    @property
     def authority(self) -> geometry.Authority:
         """Of a packet 12 or 15: its places, among them `end` and `supervised`."""
         return geometry.authority(Site(0, self.place), self.form)
 
-    @cached_property
-    def profile(self) -> geometry.Profile:
-        """Of a packet 21 or 27: its elements with their distances."""
-        return geometry.profile(Site(0, self.place), self.form)
-
-    @cached_property
+    @property
     def stretches(self) -> Tuple[Stretch, ...]:
-        """Of a packet 21 or 27: its elements before the end mark. They are those of `profile`, made in less time."""
+        """Of a packet 21 or 27: its elements before the end mark."""
+        if self._stretches is None:
+            self._stretches = self._elements()
+        return self._stretches
+
+    def _elements(self) -> Tuple[Stretch, ...]:
         distance, value, mark = ELEMENT_KEYS[self.number]
         unit, elements = self.unit, self.form["elements"]
         places = [*accumulate([each[distance] * unit for each in elements])]
@@ -139,8 +138,7 @@ class Packet:
         return len(self.form["sections"]) + 1
 
 
-@dataclass(eq=False)
-class Telegram:
+class Telegram(NamedTuple):
     """A telegram of the table."""
 
     row: Row
@@ -148,8 +146,6 @@ class Telegram:
     packets: Sequence[Packet]
     hash: int
     """That of the text of the packets: different packets mostly have different ones."""
-    holding: Sequence[Sequence[Packet]]
-    """The packets that hold in each of the DIRECTIONS."""
 
     @property
     def identity(self) -> Identity:
@@ -175,7 +171,7 @@ def telegrams_of(records: Iterable[Tuple[Row, Record]]) -> Iterator[Telegram]:
         _learn(known, chain.from_iterable(texts))
         for (row, _), header, text, own in zip(some, headers, packets, texts):
             made = packets_of([known[each] for each in own], row, header.n_pig) if own else ()
-            yield Telegram(row, header, made, hash(text), holding(made) if own else NONE)
+            yield Telegram(row, header, made, hash(text))
 
 
 def telegram_of(row: Row, form: Form) -> Telegram:
@@ -183,12 +179,12 @@ def telegram_of(row: Row, form: Form) -> Telegram:
     values = cast(Dict[str, int], form)
     header = Header(**{key: values.get(key, 0) for key in Header._fields})
     packets = packets_of(list(map(_with_fields, form["packets"])), row, header.n_pig)
-    return Telegram(row, header, packets, 0, holding(packets))
+    return Telegram(row, header, packets, 0)
 
 
 def packets_of(forms: Sequence[Form], row: Optional[Row] = None, n_pig: Optional[int] = None) -> Sequence[Packet]:
     """The packets of a telegram, or of a message."""
-    return [Packet(form["nid_packet"], place, form, row, n_pig) for place, form in enumerate(forms)]
+    return tuple([Packet(form["nid_packet"], place, form, row, n_pig, (), None) for place, form in enumerate(forms)])
 
 
 def packets_of_message(form: Form) -> Sequence[Packet]:

@@ -1,7 +1,7 @@
 """The account of a file: each of its telegrams is judged, or refused, or named as not judged."""
 from __future__ import annotations
 
-from typing import Collection, Iterable, NamedTuple, Optional, Sequence, Tuple
+from typing import Collection, Iterable, Mapping, NamedTuple, Optional, Sequence, Tuple
 
 
 class NotJudged(NamedTuple):
@@ -13,12 +13,14 @@ class NotJudged(NamedTuple):
     telegrams: int
     asked: bool = False
     """Whether an option of the command line asked for it."""
-    column: Optional[str] = None
-    """The heading of their column, if it is not the one of the telegrams."""
+    columns: Tuple[str, ...] = ()
+    """The heading of their column, if it is not the one of the telegrams. Digits may be spread over several columns."""
     sheet: Optional[str] = None
     """Of a workbook."""
     formulas: int = 0
     """How many formulas there are instead of telegrams whose values are not stored. Each may be a telegram."""
+    possible: int = 0
+    """How many rows there are instead that could hold a telegram."""
 
 
 class Account(NamedTuple):
@@ -53,6 +55,16 @@ class Account(NamedTuple):
         """How many formulas may be telegrams, because their values are not stored and no option leaves them out."""
         return sum(each.formulas for each in self.not_judged if not each.asked)
 
+    @property
+    def possible(self) -> int:
+        """How many rows could hold a telegram in what is not read, and no option leaves them out."""
+        return sum(each.possible for each in self.not_judged if not each.asked)
+
+    @property
+    def is_whole(self) -> bool:
+        """Whether everything was read that could be a telegram, or was left out by an option."""
+        return not (self.overlooked or self.unknown or self.possible)
+
     def refusing(self, count: int) -> Account:
         """The same with so many more telegrams refused."""
         return self._replace(refused=self.refused + count)
@@ -69,16 +81,25 @@ def of_rows(numbers: Sequence[int]) -> Account:
 
 
 def elsewhere(
-    why: str, numbers: Iterable[int], asked: bool, column: Optional[str] = None, sheet: Optional[str] = None
+    why: str, numbers: Iterable[int], asked: bool, columns: Sequence[str] = (), sheet: Optional[str] = None
 ) -> NotJudged:
     """Telegrams that are not in the column that is read. The row of each is given."""
     rows = list(numbers)
-    return NotJudged(why, tuple(sorted(set(rows))), len(rows), asked, column, sheet)
+    return NotJudged(why, tuple(sorted(set(rows))), len(rows), asked, tuple(columns), sheet)
 
 
 def of_formulas(
-    why: str, numbers: Iterable[int], asked: bool, column: Optional[str] = None, sheet: Optional[str] = None
+    why: str, numbers: Iterable[int], asked: bool, columns: Sequence[str] = (), sheet: Optional[str] = None
 ) -> NotJudged:
     """The same for formulas whose values are not stored."""
     rows = list(numbers)
-    return NotJudged(why, tuple(sorted(set(rows))), 0, asked, column, sheet, len(rows))
+    return elsewhere(why, rows, asked, columns, sheet)._replace(telegrams=0, formulas=len(rows))
+
+
+def of_digits(
+    remedy: str, digits: Mapping[int, int], asked: bool, columns: Sequence[str] = (), sheet: Optional[str] = None
+) -> NotJudged:
+    """The same for rows that could hold a telegram, with how many digits each of them has."""
+    first = min(digits)
+    why = f"row {first} has {digits[first]} hexadecimal digits there: {remedy}"
+    return elsewhere(why, digits, asked, columns, sheet)._replace(telegrams=0, possible=len(digits))

@@ -3,35 +3,31 @@ from __future__ import annotations
 
 import re
 import shlex
-from functools import partial
-from itertools import islice
-from typing import Dict, Iterable, Iterator, List, Mapping, Sequence, Tuple
+from itertools import islice, zip_longest
+from typing import Dict, Iterable, Iterator, List, Mapping, NamedTuple, Sequence, Set, Tuple
 
 from balisekit.errors import TableError, TableErrors
-from balisekit.tables.account import Account, NotJudged, elsewhere, of_formulas
-from balisekit.tables.cells import (
-    GREATEST_NAME,
-    LARGE,
-    LINE_END,
-    NEEDED,
-    Sheet,
-    digits,
-    has_telegram,
-    is_telegram,
-    kind_and_text,
-    shared_telegrams,
-    telegrams_in,
-)
-from balisekit.tables.groups_of_digits import LEAST_DIGITS
+from balisekit.tables.account import Account, NotJudged, elsewhere, of_digits, of_formulas
+from balisekit.tables.cells import GREATEST_NAME, LINE_END, NEEDED, Sheet, digits, kind_and_text
 from balisekit.tables.headings import KILOMETRE, compared, shown
+from balisekit.tables.unread_digits import (
+    LEAST_RUN,
+    could_hold_telegram,
+    groups_of,
+    is_telegram,
+    possible_digits,
+    size,
+    sizes_of,
+)
 
-ABOVE = "it has a telegram, and is not below the headings: put one row with headings above all telegrams"
+ABOVE = "it has digits as a telegram has, and is not below the headings: put one row with headings above all telegrams"
 COVERED = "merged headings cover its row, and it has {what}: unmerge the headings"
 OF_COLUMNS = {"telegram": "digits as a telegram has", "km": "a kilometre"}
 """What a row of the table has in these columns, and the second row of a heading has not."""
-MAY_BE_LARGE = re.compile("[0-9][eE][+0-9]")
-"""What each number has that may be a telegram."""
 SWALLOWED = "is a quote missing, or one too many?"
+HAS_SWALLOWED = f"has line ends, and digits as a telegram has: {SWALLOWED}"
+LEAST_LARGE, LEAST_SPREAD = 5, 39
+"""How many characters the shortest large number has, such as 1E+53, and twenty single digits with blanks between."""
 SHORT = re.compile("[0-9A-Fa-f]{4,}")
 """What may be a telegram below a heading, and no number of a column."""
 NOT_READ = "only the column telegram is read"
@@ -60,34 +56,73 @@ def names_of(headings: Headings) -> List[str]:
     return [shown(cell)[:GREATEST_NAME] or f"column {number}" for number, cell in enumerate(headings, 1)]
 
 
-def telegrams(sheet: Sheet, begin: int, column: int) -> Dict[int, List[int]]:
-    """The rows of cells that look like telegrams in other columns than this one, by columns, counted from 0.
+class Unread(NamedTuple):
+    """What is in other columns than `telegram`, which are counted from 0."""
 
-    TableErrors is raised for telegrams above row `begin`, counted from 0, and for those in cells with line ends, which
-    are rows that a quote has swallowed.
+    telegrams: Dict[int, List[int]]
+    """The rows of the cells that count as telegrams."""
+    possible: Dict[Tuple[int, ...], Dict[int, int]]
+    """How many digits the rows have, by their numbers, that could hold a telegram: in one column, or in several."""
+
+
+def unread(sheet: Sheet, place: int, begin: int, places: Mapping[str, int], skipped: Sequence[str]) -> Unread:
+    """What could be telegrams in the rows below row `begin`. Row `place` has the headings, counted from 0.
+
+    TableErrors is raised for what could be one above these rows, and in cells with line ends of a CSV file, which are
+    rows that a quote has swallowed.
     """
-    found: Dict[int, List[int]] = {}
-    heads = enumerate(islice(sheet.rows, begin), 1)
-    in_part = partial(has_telegram, separator=sheet.separator)
-    faults = [TableError(ABOVE, number) for number, row in heads if any(map(in_part, row))]
-    for number, row in enumerate(islice(sheet.rows, begin, None), begin + 1):
-        own = row[column] if column < len(row) else ""
-        text = "".join(row).replace(own, "", 1)
-        if len(text) < LEAST_DIGITS and not MAY_BE_LARGE.search(text):
-            continue  # (this takes a tenth of the time of the cells one by one)
-        for at in shared_telegrams([*row[:column], "", *row[column + 1 :]]) if len(text) >= LEAST_DIGITS else ():
-            found.setdefault(at, []).append(number)
-        for at, cell in enumerate(row):
-            if at == column or len(cell) < LEAST_DIGITS and not LARGE.search(cell):
-                continue
-            count = telegrams_in(cell, sheet.separator)
-            if count and LINE_END.search(cell) and not (is_telegram(cell) and not LINE_END.search(cell.strip())):
-                faults.append(TableError(f"cell {at + 1} has line ends and a telegram in it: {SWALLOWED}", number))
-            elif count:
-                found.setdefault(at, []).extend([number] * count)
+    faults = [TableError(ABOVE, number) for number in _rows_above(sheet, place, begin, places["telegram"])]
+    found, rest, names, asked_for = Unread({}, {}), {}, names_of(sheet.rows[place]), compared(skipped)
+    for at, cells in enumerate(zip_longest(*islice(sheet.rows, begin, None), fillvalue="")):
+        hits = _hits(cells) if at != places["telegram"] else {}
+        for number, cell in enumerate(cells if hits else (), begin + 1):
+            if cell in hits and LINE_END.search(cell) and sheet.separator:
+                faults.append(TableError(f"cell {at + 1} {HAS_SWALLOWED}", number))
+            elif cell in hits and hits[cell]:
+                found.possible.setdefault((at,), {})[number] = hits[cell]
+            elif cell in hits:
+                found.telegrams.setdefault(at, []).append(number)
+        if at not in places.values() and (at >= len(names) or names[at].lower() not in asked_for):
+            rest[at] = ["" if cell in hits else cell for cell in cells] if hits else cells
     if faults:
-        raise TableErrors(faults)
+        raise TableErrors(sorted(faults, key=lambda fault: fault.row or 0))
+    found.possible.update(_shared(rest, begin))
     return found
+
+
+def _rows_above(sheet: Sheet, place: int, begin: int, column: int) -> Iterator[int]:
+    """The rows up to row `begin` that could hold a telegram. In the row of the headings each cell stands by itself.
+
+    What is below the heading of this column, in rows that merged headings cover, is looked at by `covered_rows`.
+    """
+    for number, row in enumerate(islice(sheet.rows, begin), 1):
+        texts = [cell for at, cell in enumerate(row) if at != column or number <= place + 1]
+        if any(map(could_hold_telegram, texts)) or number != place + 1 and could_hold_telegram(" ".join(texts)):
+            yield number
+
+
+def _hits(cells: Sequence[str]) -> Dict[str, int]:
+    """The cells of a column that count as telegrams, as 0, or how many digits they have that could be one."""
+    longest = max(map(len, cells), default=0)
+    if longest < LEAST_LARGE or longest < LEAST_RUN and "E" not in "".join(cells).upper():
+        return {}
+    texts = {cell for cell in {*cells} if len(cell) >= LEAST_LARGE}
+    counts = {cell: 0 if is_telegram(cell) else possible_digits(cell) or None for cell in texts}
+    return {cell: count for cell, count in counts.items() if count is not None}
+
+
+def _shared(columns: Mapping[int, Sequence[str]], begin: int) -> Dict[Tuple[int, ...], Dict[int, int]]:
+    """How many digits the cells of a row have together that could hold a telegram, by the columns that have them."""
+    places = tuple(columns)
+    texts = enumerate(map(" ".join, zip(*columns.values())), begin + 1) if len(places) > 1 else ()
+    possible = {number: text for number, text in texts if len(text) >= LEAST_SPREAD and possible_digits(text)}
+    used: Set[int] = set()
+    for number, text in possible.items():
+        sizes = sizes_of(groups_of(text))
+        cells = ((at, columns[at][number - begin - 1]) for at in places)
+        used.update(at for at, cell in cells if not sizes.isdisjoint(map(size, groups_of(cell))))
+    digits_of = {number: possible_digits(text) for number, text in possible.items()}
+    return {tuple(sorted(used)): digits_of} if possible else {}
 
 
 def covered_rows(sheet: Sheet, heading: int, begin: int, places: Mapping[str, int]) -> List[str]:
@@ -129,40 +164,40 @@ def account(
 
 
 def of_columns(
-    sheet: Sheet,
-    headings: Headings,
-    begin: int,
-    places: Mapping[str, int],
-    in_columns: Mapping[int, Sequence[int]],
-    skipped: Sequence[str],
+    sheet: Sheet, headings: Headings, begin: int, places: Mapping[str, int], found: Unread, skipped: Sequence[str]
 ) -> Iterator[NotJudged]:
-    """The telegrams in other columns than the one that is read, and formulas that may be some.
+    """What could be telegrams in other columns than the one that is read, and formulas that could be some.
 
     The rows below row `begin` are read.
     """
-    names, asked_for = names_of(headings), compared(skipped)
     above = [number for number, _ in sheet.not_calculated if number <= begin]
     if above:
-        yield of_formulas(UNKNOWN, above, False, None, sheet.name)
+        yield of_formulas(UNKNOWN, above, False, (), sheet.name)
     formulas: Dict[int, List[int]] = {}
     for number, at in sheet.not_calculated[len(above) :]:
         formulas.setdefault(at, []).append(number)
-    for at in sorted({*in_columns, *formulas}):
-        option, asked = f"--skip-column {shlex.quote(names[at])}", names[at].lower() in asked_for
-        remedy = "" if at == places["group"] else f": give {option} if they are not to be judged"
-        left_out = f"{option} leaves them out" if asked else ""
-        where = asked, names[at], sheet.name or None
-        if at in in_columns:
-            yield elsewhere(left_out or f"{NOT_READ}{remedy}", in_columns[at], *where)
-        if at in formulas:
-            yield of_formulas(left_out or f"{UNKNOWN}, or give {option}", formulas[at], *where)
+    names, asked_for = names_of(headings), compared(skipped)
+    for columns in sorted({*found.possible, *((at,) for at in (*found.telegrams, *formulas))}):
+        of = [names[at] if at < len(names) else f"column {at + 1}" for at in columns]
+        option, asked = " ".join(f"--skip-column {shlex.quote(name)}" for name in of), of[0].lower() in asked_for
+        remedy = "" if columns == (places["group"],) else f": give {option} if they are not to be judged"
+        left_out, where = f"{option} leaves them out" if asked else "", (asked, of, sheet.name or None)
+        if columns[0] in found.telegrams and len(columns) == 1:
+            yield elsewhere(left_out or f"{NOT_READ}{remedy}", found.telegrams[columns[0]], *where)
+        if columns in found.possible:
+            yield of_digits(left_out or f"{NOT_READ}{remedy}", found.possible[columns], *where)
+        if columns[0] in formulas and len(columns) == 1:
+            yield of_formulas(left_out or f"{UNKNOWN}, or give {option}", formulas[columns[0]], *where)
 
 
 def _of_sheets(sheet: Sheet) -> Iterator[NotJudged]:
-    """The telegrams in the other sheets of a workbook."""
-    left_out = f"--sheet {shlex.quote(sheet.name)} leaves them out" if sheet.is_chosen else ""
-    for name, (numbers, formulas) in sheet.in_others.items():
+    """What could be telegrams in the other sheets of a workbook."""
+    asked = sheet.is_chosen
+    left_out = f"--sheet {shlex.quote(sheet.name)} leaves them out" if asked else ""
+    for name, (numbers, formulas, possible) in sheet.in_others.items():
         if numbers:
-            yield elsewhere(left_out or OTHER_SHEET, numbers, sheet.is_chosen, None, name)
+            yield elsewhere(left_out or OTHER_SHEET, numbers, asked, (), name)
+        if possible:
+            yield of_digits(left_out or OTHER_SHEET, possible, asked, (), name)
         if formulas:
-            yield of_formulas(left_out or f"{UNKNOWN}, or give --sheet", formulas, sheet.is_chosen, None, name)
+            yield of_formulas(left_out or f"{UNKNOWN}, or give --sheet", formulas, asked, (), name)

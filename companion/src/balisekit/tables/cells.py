@@ -2,14 +2,9 @@
 from __future__ import annotations
 
 import re
-import unicodedata
-from itertools import groupby
-from string import hexdigits
-from typing import Collection, List, Mapping, NamedTuple, Sequence, Tuple
+from typing import Collection, Dict, List, Mapping, NamedTuple, Sequence, Tuple
 
 from balisekit.errors import TableError, TableErrors
-from balisekit.tables import groups_of_digits
-from balisekit.tables.groups_of_digits import LEAST_DIGITS, groups_of, has_stretch
 
 COLUMNS = ("group", "telegram", "name", "km", "track", "aspect", "balise", "nominal")
 """The headings that are known."""
@@ -18,35 +13,15 @@ GREATEST_NAME = 1000
 """The most characters of a cell that is no telegram, and how many of a heading are shown."""
 BLANKS = " \t\u00a0\u2000-\u200b\u202f\u3000"
 QUOTES = "\"'\u2018\u2019\u201c\u201d\u201e\u00ab\u00bb"
-DIGITS, NO_DIGIT = re.compile("[0-9A-Fa-f]+"), re.compile("[^0-9A-Fa-f]+")
+DIGITS = re.compile("[0-9A-Fa-f]+")
 ERROR = re.compile(r"#[¡¿]?[^\W\d][\w/ ]*[!?]|##+|Loading\.\.\.|[^\W\d_]+\s*:\s*5[0-9]{2}")
 """What a spreadsheet has in a cell whose formula failed."""
 ERROR_IN_CAPITALS = re.compile(r"#[^\W\d_](?:[^\W\d_]|/)[\w/]*")
 """The same in one language or another, if all its letters are capitals: #N/A, #YOK."""
 PAIRS = re.compile(r"[^:-]{2}(?:([:-])[^:-]{2})(?:\1[^:-]{2})*")
-RUN = re.compile("[0-9A-Fa-f]{8}")
-"""What is in each text that looks like a telegram, because at most one of ten characters is no digit."""
-SPREAD_RUN = re.compile("(?:[0-9A-Fa-f](?:[^0-9A-Za-z]|0[xX]|[xXhH])*){8}")
-"""The same before blanks, separators, 0x and the like between the digits are dropped."""
-LARGE = re.compile(
-    r"(?<![^\W_])(?:[0-9]+(?:[.,][0-9]+)?[eE]\+|[0-9]+[.,][0-9]+[eE])0*(?:39|[4-9][0-9]|[1-9][0-9]{2})(?![^\W_])"
-)
-"""A number of at least 40 digits, to which a spreadsheet has shortened a telegram. Not every tool writes the plus."""
-SHARE = re.compile(r"(?:\0number\0)?(?:=(?=\s*\"))?[\s'\"]*(?:0[xX])?([0-9A-Fa-f]{1,39})[hH]?[\s'\"]*")
-"""A cell that may have a part of a telegram. The text of a formula such as `=B2` is none, but that of `="a1"` is."""
-CHECKSUMS = (40, 64, 96, 128)
-"""How many digits SHA-1, SHA-256, SHA-384 and SHA-512 have. No telegram has so many."""
 LINE_END = re.compile("[\r\n\v\f\x1c-\x1e\x85\u2028\u2029]")
 PARTS = re.compile("[,;|\t\r\n\v\f\x1c-\x1e\x85\u2028\u2029]")
 """What separates cells and rows that a quote has put into one cell."""
-NO_INK, OF_DIGITS = rf"[\s{BLANKS}\u00ad\u2060\ufeff]", "(?<![0-9A-Za-z])0[xX]"
-BETWEEN = re.compile(f"{NO_INK}+|{OF_DIGITS}")
-"""What may be between digits or in front of them: blanks, line ends, characters without ink, 0x."""
-GROUPS_WITHIN = [
-    re.compile(f"[0-9A-Fa-f]{{{size}}}([^0-9A-Za-z])[0-9A-Fa-f]{{{size}}}(?:\\1[0-9A-Fa-f]{{{size}}}){{2,}}")
-    for size in (2, 4, 8)
-]
-"""At least four groups of equally many digits, which are no date and no time."""
 
 COVERED = "a merged cell covers contents of its own, which a spreadsheet does not show: unmerge the cells"
 NOT_CALCULATED = "the values of its formulas are not stored: open the workbook in a spreadsheet, and save it"
@@ -136,6 +111,8 @@ class Found(NamedTuple):
     """The row of each telegram."""
     formulas: List[int]
     """The row of each formula whose value is not stored."""
+    possible: Dict[int, int]
+    """How many digits a row has that could hold a telegram, by its number."""
 
 
 Place = Tuple[int, int]
@@ -175,81 +152,6 @@ def digits(cell: str) -> str:
     if text[-1:] in ("h", "H"):
         text = text[:-1]
     return re.sub("[:-]", "", text) if PAIRS.fullmatch(text) else text
-
-
-def is_telegram(cell: str) -> bool:
-    """Whether a cell looks like a telegram, perhaps with some wrong characters."""
-    if len(cell) < LEAST_DIGITS:
-        return False
-    text = digits("".join(kind_and_text(cell)[1].split()))
-    if len(text) >= LEAST_DIGITS and 10 * len(NO_DIGIT.sub("", text)) >= 9 * len(text):
-        return True
-    return groups_of_digits.may_be_digits(cell) and groups_of_digits.is_telegram(groups_of(cell))
-
-
-def telegrams_in(cell: str, separator: str = "") -> int:
-    """How many telegrams a cell has: it looks like one, or has some between separators or line ends.
-
-    With line ends it may have any words beside the telegram: rows that a quote has swallowed are in it. `separator` is
-    that of the file, which may be another one than those of spreadsheets.
-    """
-    numbers = len(LARGE.findall(cell))
-    if len(cell) < LEAST_DIGITS or not _may_have_one(cell if cell.isascii() else unicodedata.normalize("NFKC", cell)):
-        return numbers  # (this takes a tenth of the time of what follows)
-    parts = PARTS.split(cell.replace(separator, "\n") if separator else cell)
-    count = sum(map(is_telegram, parts)) or int(is_telegram(cell)) or sum(map(_is_among_words, parts))
-    return count or int(has_swallowed(cell) or _is_among_words(cell)) or numbers
-
-
-def shared_telegrams(row: Sequence[str]) -> List[int]:
-    """The first column of each telegram whose digits neighbouring cells of a row share, counted from 0.
-
-    No cell has enough digits by itself, and none has anything else.
-    """
-    shares = [SHARE.fullmatch(cell) for cell in row]
-    if sum(len(share[1]) for share in shares if share) < LEAST_DIGITS:
-        return []
-    stretches = (list(stretch) for is_one, stretch in groupby(range(len(row)), lambda at: bool(shares[at])) if is_one)
-    groups = ((columns[0], [share[1] for share in (shares[at] for at in columns) if share]) for columns in stretches)
-    return [first for first, digits_of in groups if groups_of_digits.is_telegram(digits_of)]
-
-
-def telegrams_among(text: str) -> int:
-    """How many telegrams a text has that is in no cell, whatever words are around them."""
-    return telegrams_in(text) or int(len(text) >= LEAST_DIGITS and _is_within(text))
-
-
-def _may_have_one(text: str) -> bool:
-    """Whether a text has enough digits for a telegram, eight of them without other letters between them."""
-    return sum(map(text.count, hexdigits)) >= LEAST_DIGITS * 9 // 10 and bool(SPREAD_RUN.search(text))
-
-
-def has_telegram(cell: str, separator: str = "") -> bool:
-    """Whether a cell has a telegram."""
-    return telegrams_in(cell, separator) > 0
-
-
-def _is_among_words(text: str) -> bool:
-    """Whether a text has a telegram between its words, and no line end. Checksums of common lengths are none."""
-    groups = [group for group in groups_of(text) if len(group) not in CHECKSUMS] if len(text) >= LEAST_DIGITS else []
-    stretches = (
-        list(stretch) for are_digits, stretch in groupby(groups, groups_of_digits.DIGITS.issuperset) if are_digits
-    )
-    return any(map(groups_of_digits.is_telegram, stretches))
-
-
-def has_swallowed(cell: str) -> bool:
-    """Whether a cell has line ends, and a telegram among other things."""
-    return len(cell) >= LEAST_DIGITS and bool(LINE_END.search(cell)) and _is_within(cell)
-
-
-def _is_within(text: str) -> bool:
-    """Whether something like a telegram is between any words of a text."""
-    bare = BETWEEN.sub("", unicodedata.normalize("NFKC", text))
-    for groups in GROUPS_WITHIN:
-        bare = groups.sub(lambda found: found[0].replace(found[1], ""), bare)
-    parts = (part for part in re.split("[,;]", bare) if len(part) >= LEAST_DIGITS and RUN.search(part))
-    return any(map(has_stretch, parts)) or groups_of_digits.is_within(groups_of(text))
 
 
 def fill_heads(rows: List[List[str]], areas: Sequence[Area]) -> None:

@@ -2,22 +2,32 @@
 from __future__ import annotations
 
 import re
+import unicodedata
 from itertools import accumulate
+from string import hexdigits
 from typing import Iterator, List
 
 from balisekit.errors import TableError, TableErrors, faults_of
 from balisekit.io import inputs
 from balisekit.tables.account import of_rows
-from balisekit.tables.cells import NO_INK, digits, has_telegram
+from balisekit.tables.cells import BLANKS, digits
 from balisekit.tables.encoding import text_of
-from balisekit.tables.groups_of_digits import DIGITS, plain
 from balisekit.tables.model import Message, Messages
+from balisekit.tables.unread_digits import UUID, could_hold_telegram
 
 LEAST_DIGITS = 20
 """How many digits the shortest message has: NID_MESSAGE, L_MESSAGE, T_TRAIN, M_ACK and NID_LRBG."""
+DIGITS = frozenset(hexdigits)
+MARK = re.compile(
+    r"16#|0[xX]|(?<![^\W_])(?:0|[0-9]{1,2}')[hH](?=[0-9A-Fa-f])"
+    r"|[xXhH](?=[\"']?[0-9A-Fa-f]{2})"
+    r"|(?<=[0-9A-Fa-f])[hH](?![^\W_])"
+)
+"""What tells that digits are hexadecimal, in front of them or behind them: 0x, x'..', \\x, &H, 8'h, 16#, a final h."""
 GROUP = re.compile(r"[0-9A-Fa-f]+|[^\W_]")
 """Digits, or another letter, after which no digits of the same message are."""
-NOTHING = re.compile(f"{NO_INK}*")
+IN_NAME = "after the semicolon are digits as a message has: write one message per line"
+NOTHING = re.compile(rf"[\s{BLANKS}\u00ad\u2060\ufeff]*")
 
 
 def read(path: str) -> Messages:
@@ -36,8 +46,8 @@ def _messages(text: str) -> List[Message]:
         if not line.strip():
             continue
         cell, _, name = line.partition(";")
-        if has_telegram(name) or any(map(_has_message, _stretches(name))):
-            faults.append(TableError("after the semicolon is a message: write one per line", line=number))
+        if could_hold_telegram(name) or any(map(_has_message, _stretches(name))):
+            faults.append(TableError(IN_NAME, line=number))
         elif digits(cell):
             messages.append(Message(number, digits(cell), cell.strip(), name.strip()))
         else:
@@ -55,7 +65,8 @@ def _stretches(name: str) -> Iterator[List[str]]:
     Blanks and marks such as 0x are between them, or any characters if no group is longer than the one before it: the
     end of a name can be in front of the first one, and the last one can be short.
     """
-    text, stretch, end = plain(name), [""], 0
+    text = MARK.sub(" ", UUID.sub("z", unicodedata.normalize("NFKC", name)))
+    stretch, end = [""], 0
     for found in GROUP.finditer(text):
         is_near = NOTHING.fullmatch(text, end, found.start())
         if not DIGITS.issuperset(found[0]):

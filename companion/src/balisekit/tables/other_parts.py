@@ -9,7 +9,7 @@ from typing import Callable, Collection, Iterator, List, NamedTuple
 from xml.etree.ElementTree import Element, ParseError, iterparse
 
 from balisekit.errors import TableError
-from balisekit.tables.cells import telegrams_among
+from balisekit.tables.unread_digits import could_hold_telegram
 
 RUNS = frozenset("r t p fld font span div a b i u s".split())
 """The elements of a formatted text, in each of the formats that a workbook has."""
@@ -22,8 +22,14 @@ FORMULA = re.compile(
     rb"<(?:[^\s<>/:]+:)?f(?:\s[^>]*)?>([^<]{40,})</(?:[^\s<>/:]+:)?f\s*>\s*(?:<(?:[^\s<>/:]+:)?v[^>]*>([^<]*))?"
 )
 """A formula that has room for a telegram, and its value."""
-WITHOUT_TEXT = re.compile(r".*\.rels|xl/(media|printerSettings|fonts)/.*|docProps/thumbnail\..*", re.IGNORECASE)
-"""Addresses of parts, pictures, and the settings of printers."""
+WITHOUT_TEXT = re.compile(
+    r".*\.rels|xl/(media|printerSettings|fonts)/.*|docProps/thumbnail\..*|_xmlsignatures/.*", re.IGNORECASE
+)
+"""Addresses of parts, pictures, the settings of printers, and signatures."""
+NO_TEXTS = ("sqref",)
+"""Attributes with names of cells, which have hexadecimal digits."""
+CONTENT_TYPE = re.compile("0x01[0-9A-Fa-f]*")
+"""What SharePoint calls a kind of documents. No telegram begins with 01, which would be version 0.1."""
 LookAtParts = Callable[[bytes], None]
 """Raises TableError for an embedded workbook or document that takes too long to read."""
 
@@ -51,7 +57,7 @@ def beside_cells(content: bytes, sheets: Collection[str], strings: str, look_at:
                 found.not_searched.append(name)
             else:
                 texts = _beside_values(part, name in sheets) if name in (*sheets, strings) else _texts(part)
-                found.telegrams.extend([name] * sum(map(telegrams_among, texts)))
+                found.telegrams.extend([name] * sum(map(_could_hold, texts)))
     return found
 
 
@@ -70,6 +76,10 @@ def _add_embedded(found: Beside, name: str, part: bytes, look_at: LookAtParts) -
 def _look_at_none(_: bytes) -> None:
     """Raises TableError: files in an embedded file are not read."""
     raise TableError("it is embedded in an embedded file")
+
+
+def _could_hold(text: str) -> bool:
+    return could_hold_telegram(text) and not CONTENT_TYPE.fullmatch(text.strip())
 
 
 def _is_xml(part: bytes) -> bool:
@@ -92,7 +102,7 @@ def _texts(part: bytes) -> List[str]:
     texts: List[str] = []
     try:
         for _, element in iterparse(io.BytesIO(part)):
-            texts += element.attrib.values()
+            texts += [value for name, value in element.attrib.items() if name not in NO_TEXTS]
             if _name(element) not in RUNS:
                 texts.append("".join(_runs(element)))
                 element.clear()

@@ -63,7 +63,7 @@ def read(
         meant = tuple(_meant(name, places) for name in passed_over[:COMPARED])
         try:
             cells.look_at_calculated(begin, len(cells.rows[place]), places)
-            in_columns = beside.telegrams(cells, begin, places["telegram"])
+            unread = beside.unread(cells, place, begin, places, skip_columns)
             of_heading = _notes_on_heading(place, headings.notes(cells.rows[place]), named)
             of_heading += beside.covered_rows(cells, place + 1, begin, places)
             rows = _rows(cells, places, begin, len(cells.rows[place]))
@@ -71,7 +71,7 @@ def read(
         except (TableError, TableErrors) as error:
             raise TableErrors([*_hints(passed_over, meant, place, named), *error.faults]) from error
     about = path, file.sha256, cells.encoding, cells.separator
-    not_judged = beside.of_columns(cells, cells.rows[place], begin, places, in_columns, skip_columns)
+    not_judged = beside.of_columns(cells, cells.rows[place], begin, places, unread, skip_columns)
     account = beside.account(cells, [row.number for row in rows], passed_over, not_judged)
     of_heading += [*cells.notes_on_recalculated(begin, places.values()), *not_there]
     of_file = (*cells.notes, *own_headings.not_read(path, columns), *of_heading)

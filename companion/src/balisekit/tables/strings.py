@@ -6,7 +6,7 @@ from typing import Any, Iterable, List, Match, Set
 from xml.etree.ElementTree import Element, iterparse
 
 from balisekit.errors import TableError
-from balisekit.tables.cells import telegrams_in
+from balisekit.tables.unread_digits import could_hold_telegram
 
 NAMESPACE = "{http://schemas.openxmlformats.org/spreadsheetml/2006/main}"
 STRING, PLAIN, RUN, READ_ALOUD = (f"{NAMESPACE}{name}" for name in ("si", "t", "r", "rPh"))
@@ -30,8 +30,8 @@ class Strings(List[str]):
         return super().__getitem__(index)
 
     def telegrams_of_no_cell(self) -> int:
-        """How many telegrams are in strings that no cell has."""
-        return sum(telegrams_in(text) for index, text in enumerate(self) if index not in self.used)
+        """How many strings that no cell has could hold a telegram."""
+        return sum(could_hold_telegram(text) for index, text in enumerate(self) if index not in self.used)
 
 
 def read(reader: Any) -> None:

@@ -24,13 +24,12 @@ from balisekit.tables.cells import (
     Sheet,
     fill_heads,
     of_kind,
-    shared_telegrams,
-    telegrams_in,
 )
 from balisekit.tables.encoding import OLD_WORKBOOK
 from balisekit.tables.headings import SEARCHED, Headings, is_data
 from balisekit.tables.other_parts import Beside, beside_cells
 from balisekit.tables.strings import NAMESPACE, OTHER_TEXT, Strings
+from balisekit.tables.unread_digits import is_telegram, possible_digits
 
 CONTENTS = "[Content_Types].xml"
 """A part that each workbook has."""
@@ -56,7 +55,9 @@ MERGED = (
 UNMERGE = "merged ranges, whose empty cells are read as empty: {count}, the first {first}; unmerge and fill the cells"
 """The same for a workbook that no option is about."""
 FILLED = "merged ranges, whose empty cells are read with the value of the first one: {count}, the first {first}"
-BESIDE = "telegrams in comments, text boxes and other parts that are not read: {count}, the first in {first}"
+BESIDE = (
+    "digits as telegrams have in comments, text boxes and other parts that are not read: {count}, the first in {first}"
+)
 NOT_SEARCHED = (
     "macros, embedded objects and other parts that are not searched for telegrams: {count}, the first {first}"
 )
@@ -392,15 +393,17 @@ def _found_in_others(book: Any, chosen: Any, recalculates: bool) -> Dict[str, Fo
 
 def _found(sheet: Any, recalculates: bool) -> Found:
     """What is found in a sheet whose rows and cells may be in any order."""
-    found, number = Found([], []), 0
+    found, number = Found([], [], {}), 0
     for row, parse_cell in _elements(sheet):
         number, texts = _number(row.get("r", "")) or number + 1, []
         for cell in row.iterfind(f"{NAMESPACE}c"):
             value = _value(cell, parse_cell)
             texts.append(_text(value))
-            found.telegrams.extend([number] * telegrams_in(texts[-1]))
             found.formulas.extend([number] * _is_not_calculated(cell, value, recalculates))
-        found.telegrams.extend([number] * len(shared_telegrams(texts)))
+        others = [text for text in texts if not is_telegram(text)]
+        found.telegrams.extend([number] * (len(texts) - len(others)))
+        count = possible_digits(" ".join(others))
+        found.possible.update({number: count} if count else {})
     return found
 
 

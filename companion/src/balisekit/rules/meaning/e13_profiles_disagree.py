@@ -11,15 +11,18 @@ differ if V_STATIC is not the same, and gradients differ if they are more than 5
 - If only some aspects of the group in rear have packets 5 that name the group ahead, only these aspects are compared.
 - Groups with a refused telegram do not count.
 - If a group differs from its neighbours on both sides, the remark is on this group.
+- Q_FRONT is compared at each step up of V_STATIC that two telegrams give at one place, with the same two speeds. These
+  can also be two aspects of one group. The most frequent Q_FRONT counts as right.
 
 Why it matters. At worst the train gets wrong information: it might go too fast, or brake too late on a slope. It goes
-by the profile that it got last, which might be the wrong one.
+by the profile that it got last, which might be the wrong one. By a wrong Q_FRONT it runs faster while its rear is still
+on the stretch with the lower speed.
 
 Example. Before (`examples/meaning/mistakes/E13.csv`): from km 13.000 to km 14.700 Signal 3 has a gradient of +18 per
 mille, and Signal 2 has -18 per mille. After: Q_GDIR of Signal 3 is corrected, and both have -18 per mille.
 
 When it is a false alarm. {exact} Some projects also let a new speed begin 20 m early on purpose. {track speed}
-{leaving} {points} {kilometres} {missing} {one way}
+Q_FRONT might depend on the route or the aspect. {leaving} {points} {kilometres} {missing} {one way}
 
 Usual cause. V_STATIC is in km/h, or Q_SCALE or Q_GDIR is wrong. Or a speed or a gradient was changed in one group only.
 
@@ -38,6 +41,7 @@ from typing import Dict, Iterator, List, NamedTuple, Sequence, Tuple
 from balisekit.rules.decoded import Decoded
 from balisekit.rules.line import Line
 from balisekit.rules.meaning.along import leaves
+from balisekit.rules.meaning.fronts import fronts
 from balisekit.rules.meaning.profiles import (
     Aspect,
     Piece,
@@ -55,7 +59,6 @@ from balisekit.rules.meaning.words import more_stretches, source
 from balisekit.rules.rule import Options, Remark, Result, Rule, Urgency
 from balisekit.rules.telegrams import GRADIENTS, SPEEDS
 
-
 ALONE = "the only group of its track"
 """Why profiles are compared with no others."""
 
@@ -71,7 +74,8 @@ class Difference(NamedTuple):
 
 def find(line: Line, options: Options) -> Result:
     """Compares the profiles of each group with those of the groups ahead."""
-    decoded, found, looked_at = line.decoded, [], 0
+    decoded, looked_at = line.decoded, 0
+    found: List[Remark] = []
     alone: Counter[str] = Counter()
     for number in (SPEEDS, GRADIENTS):
         for (track, _), lane in lanes_of(decoded)[number].items():
@@ -81,6 +85,7 @@ def find(line: Line, options: Options) -> Result:
             differences = [each for one in pairs(lane) for each in _difference(decoded, options, *one)]
             looked_at += len(lane)
             found += list(_remarks(decoded, differences))
+    found += fronts(decoded, options)
     return Result.of_places(found, looked_at, Counter(unplaced_of(decoded, SPEEDS, GRADIENTS).values()), alone)
 
 

@@ -60,7 +60,7 @@ def find(line: Line, options: Options) -> Result:
     if ends and _is_without_links(decoded):
         if line.lost_messages or any(unread_of(decoded)):
             return Result([], 0, lacks)
-        before = " before a packet 136" if LINKING in decoded.sent else ""
+        before = " before a packet 136" if any(decoded.sent(LINKING)) else ""
         sentence = f"no group or message has a packet 5 (linking){before}, and authorities have a V_MAIN above 0"
         facts = [sender(end.passage, end.packet) for end in ends]
         return Result([Remark("E17", ends[0].passage.at(), sentence, facts=facts)], len(ends), lacks)

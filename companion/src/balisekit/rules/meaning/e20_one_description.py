@@ -1,18 +1,21 @@
 """E20: one group, several descriptions.
 
-What it says. A packet 5 names its own group, or one group twice. With `--rules E20` the rule also compares all links to
-one group. It then reports a different Q_LOCACC, and a different Q_LINKREACTION for trains of one way. The most frequent
-value counts as right. The rule rests on SUBSET-026, 3.4.4 and 7.4.2.
+What it says. A packet 5 names its own group, or one group twice. Or a link to a group has another Q_LOCACC or
+Q_LINKREACTION than the other links to it. The rule rests on SUBSET-026, 3.4.4 and 7.4.2.
+- The most frequent value counts as right, of equally frequent ones that of most links of the table.
+- Q_LINKREACTION is compared for trains of one way.
+- Such a value is reported if no other link of the table has it, and the table has at least ten links.
+- With `--rules E20` each value is reported that is not the most frequent one.
 
 Why it matters. At worst the train brakes without need. It expects one group twice, or the expectation window of a group
-depends on which group linked it. A remark that only `--rules E20` gives has the lowest urgency.
+depends on which group linked it. A remark about Q_LOCACC or Q_LINKREACTION has the lowest urgency.
 
-Example. Before (`examples/meaning/mistakes/E20.csv` with `--rules E20`): Signal 4 links Signal 5 (km 16.000) with
+Example. Before (`examples/meaning/mistakes/E20.csv`): Signal 4 links Signal 5 (km 16.000) with
 Q_LOCACC 12 m, and 2 of 3 links to it have 5 m. After: all links to Signal 5 have Q_LOCACC 5 m.
 
 When it is a false alarm. The rule assumes that a train passes each group of a packet 5 once. On a balloon loop it
-passes a group twice. With `--rules E20` it also assumes that Q_LOCACC and Q_LINKREACTION belong to the group. They
-might depend on the route, the aspect or the sender.
+passes a group twice. It also assumes that Q_LOCACC and Q_LINKREACTION belong to the group. They might depend on the
+route, the aspect or the sender, so that even a value of one link only can be right.
 
 Usual cause. A NID_BG was copied from the link before it. Or Q_LOCACC was changed in one packet only.
 
@@ -39,6 +42,9 @@ from balisekit.rules.meaning.words import merged
 from balisekit.rules.rule import Options, Remark, Result, Rule, Urgency
 from balisekit.rules.telegrams import HOLDING, LINKING, Link, Packet
 from balisekit.tables.names import describe_identity, ordinal, rows_words
+
+LEAST = 10
+"""The fewest links of a table of which a single one stands out by its value."""
 
 
 class Naming(NamedTuple):
@@ -82,22 +88,30 @@ class Naming(NamedTuple):
 
 def find(line: Line, options: Options) -> Result:
     """Looks at all links."""
-    found, looked_at = [], 0
+    found: List[Remark] = []
+    every: List[Naming] = []
     described: Dict[Tuple[str, Identity, int], List[Naming]] = {}
     is_asked = options.asks_for("E20")
     for owner, packet in sent(line.decoded, LINKING):
         links = [Naming(owner, packet, link) for link in packet.links if link.known]
-        looked_at += len(links)
+        every += links
         found += list(_repeated(links))
-        for link in links if is_asked else ():
+        for link in links:
             described.setdefault(("q_locacc", link.identity, 0), []).append(link)
             for index in HOLDING[packet.form["q_dir"]]:
                 way = link.sender.along(DIRECTIONS[index]) if link.sender else None
                 if way is not None:
                     described.setdefault(("q_linkreaction", link.identity, way), []).append(link)
+    totals = {key: Counter(link.value(key) for link in every) for key in ("q_locacc", "q_linkreaction")}
     for (key, _, _), links in described.items():
-        found += list(_differing(key, links))
-    return Result(merged(found), looked_at)
+        differing = _differing(key, links, totals[key])
+        found += [each for each in differing if is_asked or _is_only(totals[key], each.values[key])]
+    return Result(merged(found), len(every))
+
+
+def _is_only(totals: Counter[int], value: Decimal) -> bool:
+    """Whether one link of a table with many has a value."""
+    return totals[int(value)] == 1 and sum(totals.values()) >= LEAST
 
 
 def _repeated(links: List[Naming]) -> Iterator[Remark]:
@@ -112,12 +126,12 @@ def _repeated(links: List[Naming]) -> Iterator[Remark]:
         first.setdefault(link.identity, link.link.number)
 
 
-def _differing(key: str, links: List[Naming]) -> Iterator[Remark]:
-    """The links whose value is not the most frequent one."""
+def _differing(key: str, links: List[Naming], totals: Counter[int]) -> Iterator[Remark]:
+    """The links whose value is not the most frequent one, of equally frequent ones that of most links of the table."""
     counts = Counter(link.value(key) for link in links)
     if len(counts) < 2:
         return
-    usual = max(links, key=lambda link: counts[link.value(key)])
+    usual = max(links, key=lambda link: (counts[link.value(key)], totals[link.value(key)]))
     facts = [counted(f"{origin(each.location)} {each.value(key)}" for each in links)]
     for link in links:
         if link.value(key) != usual.value(key):
@@ -131,5 +145,5 @@ def _differing(key: str, links: List[Naming]) -> Iterator[Remark]:
             yield made._replace(compared=[usual.location], facts=facts)
 
 
-COMPARED = "different Q_LOCACC or Q_LINKREACTION of links to one group"
+COMPARED = "each different Q_LOCACC or Q_LINKREACTION of links to one group"
 RULE = Rule("E20", "links", __doc__ or "", find, Urgency.BRAKING, optional_part=COMPARED)

@@ -26,6 +26,8 @@ Lanes = Mapping[Tuple[str, int], Sequence["Profiles"]]
 class Aspect:
     """A profile that a group gives in one of its aspects."""
 
+    __slots__ = ("passage", "packet", "origin", "stretches")
+
     def __init__(self, passage: Passage, packet: Packet, origin: int, up: int = 1, down: int = 1) -> None:
         """`origin` is the place of the group. Distances are multiplied and divided, to try another Q_SCALE."""
         self.passage, self.packet, self.origin = passage, packet, origin
@@ -76,6 +78,8 @@ def _stretches(packet: Packet, origin: int, up: int, down: int) -> Sequence[Step
 
 class Profiles:
     """All profiles of one kind that a group gives to trains of one way."""
+
+    __slots__ = ("data", "track", "way", "begin", "longest", "reach", "first", "_sayings", "_differ")
 
     def __init__(self, data: GroupData, way: int, sayings: Sequence[Tuple[Passage, Packet]], differ: bool) -> None:
         """`sayings` has each profile, and `differ` says whether its aspects have different packets 5."""

@@ -2,6 +2,7 @@
 from __future__ import annotations
 
 from decimal import Decimal
+from functools import lru_cache
 from typing import Callable, Dict, Iterable, Iterator, List, Mapping, NamedTuple, Optional, Sequence, Tuple, TypeVar
 
 from balisekit.etcs.geometry import ELEMENT_KEYS
@@ -29,7 +30,7 @@ class Fault(NamedTuple):
 def sent(decoded: Decoded, *numbers: int) -> Iterator[Tuple[Owner, Packet]]:
     """Each packet with these NID_PACKET once, and who sends it: those of groups, then those of messages."""
     for number in numbers:
-        yield from decoded.sent.get(number, ())
+        yield from decoded.sent(number)
 
 
 def located(owner: Owner, packet: Packet) -> Location:
@@ -111,6 +112,7 @@ def speed(value: int) -> str:
     return f"{value * 5} km/h [{value}]"
 
 
+@lru_cache(maxsize=None)
 def kmh(value: int) -> Decimal:
     """A speed in km/h, as a value of a remark."""
     return Decimal(value * 5)

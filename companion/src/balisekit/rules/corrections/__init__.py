@@ -1,0 +1,25 @@
+"""One cause, one entry: a correction of one thing that would remove several entries is the entry for them.
+
+Each module suggests corrections of one kind. What it suggests may be wrong: a correction counts only if it was tried
+out (`trying`). Corrections are balisekit's own, and not proved.
+"""
+from __future__ import annotations
+
+from typing import Sequence
+
+from balisekit.rules.corrections import balises, counters, identities, kilometres, links, packets, places, telegrams
+from balisekit.rules.corrections.correction import Suggest
+
+SUGGESTIONS: Sequence[Sequence[Suggest]] = (
+    (
+        kilometres.suggest,
+        balises.suggest,
+        counters.suggest,
+        telegrams.suggest,
+        identities.suggest,
+        packets.suggest,
+        links.suggest,
+    ),
+    (places.suggest,),
+)
+"""In the order in which they are tried: what would be right, then where the mistake is."""

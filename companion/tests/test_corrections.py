@@ -1,0 +1,201 @@
+"""One cause, one entry: a correction stands for the entries that it removes, and no finding is lost below it."""
+from __future__ import annotations
+
+import json
+from decimal import Decimal
+from pathlib import Path
+from typing import Any, Dict, List, Tuple
+
+import entries_of_mistakes
+import meaning_line
+import pytest
+from conftest import Run
+from meaning_line import Line, Row
+from test_meaning import Change, written
+
+from balisekit.engine.program import Program
+from balisekit.rules import checking, families
+from balisekit.rules.corrections import kilometres
+from balisekit.rules.corrections.correction import Correction, Evidence
+from balisekit.rules.families import FAMILIES, apply, items_of
+from balisekit.rules.rule import Options
+from balisekit.tables import reader
+
+BOTH = meaning_line.SOUND["both-directions"]
+
+
+def of_signal(name: str, **values: Any) -> Change:
+    """Other values in the headers of all telegrams of a group."""
+
+    def change(rows: List[Row]) -> None:
+        for row in rows:
+            if row.group == name:
+                row.form.update(values)
+
+    return change
+
+
+def moved(name: str, metres: int) -> Change:
+    """A group at another kilometre of the table. Its telegrams and the links to it are as they were."""
+
+    def change(rows: List[Row]) -> None:
+        for row in rows:
+            row.place += metres if row.group == name else 0
+
+    return change
+
+
+def turned(rows: List[Row]) -> None:
+    """The balises of signal 9 have the kilometres of each other."""
+    own = [row for row in rows if row.group == "Signal 9"]
+    places = {row.balise: row.place for row in own}
+    for row in own:
+        row.place = places[1 - row.balise]
+
+
+def exchanged(rows: List[Row]) -> None:
+    """Red and green of signal 9 have the telegrams of each other."""
+    red, green = ([row for row in rows if (row.group, row.aspect) == ("Signal 9", each)] for each in ("red", "green"))
+    for one, other in zip(red, green):
+        one.form, other.form = other.form, one.form
+
+
+def answers(run: Run, path: Path, *words: str) -> Tuple[List[str], Dict[str, Any]]:
+    """The lines of the answer, and its JSON."""
+    output = path.with_suffix(".json")
+    status, out, _ = run("check", path, "--json", output, *words)
+    assert status == 1
+    found: Dict[str, Any] = json.loads(output.read_text("utf-8"))
+    return out, found
+
+
+def test_a_kilometre_with_exchanged_digits(run: Run, program: Program, tmp_path: Path) -> None:
+    """It is one entry at the rows of the group, which has all others below it. The counts of rules stay."""
+    path = written(program, tmp_path / "t.csv", Line(), moved("Signal 9", 270))
+    out, found = answers(run, path)
+    (entry,) = found["entries"]
+    assert entry["sentence"] == (
+        "all links to and from Signal 9 differ by 270 m from its kilometre: at km 22.000 they would agree"
+    )
+    assert entry["rows"] == [34, 35, 36, 37] and entry["rules"] == ["L2", "E13"]
+    assert [each["rule"] for each in entry["folded"]] == ["L2", "L2", "E13"]
+    assert "    folded below it: 3 entries (L2 2, E13 1), gone if it is corrected; --folded lists them" in out
+    assert out[-1] == 'program: "yes: groups 15, messages 0"; links: 2 found (L2 2); remarks: 1 found (E13 1)'
+    listed, _ = answers(run, path, "--folded", "--force")
+    assert sum(line.startswith("      ") for line in listed) == 3
+    assert "remarks on what the data mean, by balisekit's own rules, not proved: all folded below other entries" in out
+
+
+def test_each_folded_remark_still_has_to_be_accepted(run: Run, program: Program, tmp_path: Path) -> None:
+    """Entries that are proposed name each of them, and accept them only together with their data."""
+    path = written(program, tmp_path / "t.csv", Line(), moved("Signal 9", 270))
+    proposal = tmp_path / "accepted.csv"
+    assert run("check", path, "--propose", proposal)[0] == 1
+    head, *rows = proposal.read_text("utf-8").splitlines()
+    assert [row.split(",")[0] for row in rows] == ["L2", "L2", "E13"]
+    signed = [row.replace(",,,,", ",reason,me,2026-11-30,", 1) if ",,,," in row else row for row in rows]
+    cells = [row.split(",") for row in rows]
+    reason = head.split(",").index("reason")
+    for each in cells:
+        each[reason : reason + 3] = ["by the plan", "me", "2026-11-30"]
+    signed = [",".join(each) for each in cells]
+    proposal.write_text("\n".join([head, *signed[:2]]) + "\n", "utf-8")
+    status, out, _ = run("check", path, "--accepted", proposal)
+    assert status == 1 and any("accepted 2, open 1" in line for line in out)
+    proposal.write_text("\n".join([head, *signed]) + "\n", "utf-8")
+    assert run("check", path, "--accepted", proposal)[0] == 0
+
+
+@pytest.mark.parametrize("name, km", [("Signal 9", Decimal("22")), ("Signal R9", Decimal("22.6"))])
+def test_other_outputs(run: Run, program: Program, tmp_path: Path, name: str, km: Decimal) -> None:
+    """The page, SARIF, the workbook and Python have each folded entry."""
+    path = written(program, tmp_path / "t.csv", BOTH, moved(name, 270))
+    outputs = {each: tmp_path / f"out.{each}" for each in ("sarif", "json")}
+    run("check", path, *(word for each, file in outputs.items() for word in (f"--{each}", file)))
+    (entry,) = json.loads(outputs["json"].read_text("utf-8"))["entries"]
+    (result,) = json.loads(outputs["sarif"].read_text("utf-8"))["runs"][0]["results"]
+    assert all(each["sentence"] in result["message"]["text"] for each in entry["folded"]) and entry["folded"]
+    assert f"km {km:.3f}" in entry["sentence"]
+
+
+def test_balises_in_the_other_order(run: Run, program: Program, tmp_path: Path) -> None:
+    path = written(program, tmp_path / "t.csv", Line(), turned)
+    _, found = answers(run, path)
+    (entry,) = found["entries"]
+    assert "the kilometres of the balises of Signal 9 look exchanged" in entry["sentence"]
+    assert entry["rows"] == [34, 35, 36, 37] and {each["rule"] for each in entry["folded"]} >= {"L3"}
+
+
+def test_the_program_is_quoted(run: Run, program: Program, tmp_path: Path) -> None:
+    """A fixed balise with a counter of its own: three findings F7 at correct rows, and the verdict is the program's."""
+
+    def counter(rows: List[Row]) -> None:
+        next(row for row in rows if row.group == "Signal 9").form["m_mcount"] = 0
+
+    out, found = answers(run, written(program, tmp_path / "t.csv", Line(), counter))
+    (entry,) = found["entries"]
+    assert entry["sentence"].endswith("a fixed balise has 255") and entry["rows"] == [34]
+    assert len(found["findings"]) > 1 and entry["program"] == [each["line"] for each in found["findings"]]
+    assert all(f"    program: {line}" in out for line in entry["program"])
+    assert out[-1].startswith(f'program: "no: findings {len(found["findings"])}"')
+    assert entry["values"] == {"M_MCOUNT": "0"} and entry["proved"]
+
+
+@pytest.mark.parametrize(
+    "change, rows, words",
+    [
+        (of_signal("Signal 9", nid_bg=77), [34, 35, 36, 37], "name group 9 of country or region 352"),
+        (exchanged, [35, 37], 'the aspects "red" and "green" of Signal 9 look exchanged'),
+    ],
+)
+def test_identities_and_aspects(
+    run: Run, program: Program, tmp_path: Path, change: Change, rows: List[int], words: str
+) -> None:
+    _, found = answers(run, written(program, tmp_path / "t.csv", Line(), change))
+    first = found["entries"][0]
+    assert words in first["sentence"] and first["rows"] == rows, first["sentence"]
+    assert len([each for each in found["entries"] if not each["expected"]]) == 1
+
+
+def wrong_place(evidence: Evidence) -> Any:
+    """A correction that moves the group, but not to the place on which links agree."""
+    group = evidence.groups["Signal 9"]
+    cells = {row.number: {"km": (row.km or Decimal()) + Decimal("0.5")} for row in group.each_row}
+    yield Correction(group, tuple(cells), "guessed", cells)
+
+
+def without_kilometre(evidence: Evidence) -> Any:
+    """A correction that removes the remarks, because rules L then compare less."""
+    group = evidence.groups["Signal 9"]
+    cells: Dict[int, Dict[str, Any]] = {row.number: {"km": None} for row in group.each_row}
+    yield Correction(group, tuple(cells), "silenced", cells)
+
+
+@pytest.mark.parametrize("suggest", [wrong_place, without_kilometre])
+def test_no_correction_is_guessed(
+    program: Program, tmp_path: Path, monkeypatch: pytest.MonkeyPatch, suggest: Any
+) -> None:
+    """A correction after which other entries are there, or less is compared, explains nothing."""
+    path = written(program, tmp_path / "t.csv", Line(), moved("Signal 9", 270))
+    made = checking.check(program, reader.read(str(path)))
+    monkeypatch.setattr(families, "SUGGESTIONS", ((suggest,),))
+    assert len(apply(made, tuple(FAMILIES), Options()).entries) == 3
+    monkeypatch.setattr(families, "SUGGESTIONS", ((suggest, kilometres.suggest),))
+    outcome = apply(made, tuple(FAMILIES), Options())
+    (entry,) = outcome.entries
+    assert entry.sentence.startswith("all links") and len(items_of(entry)) == len(outcome.items) == 3
+
+
+def test_a_large_table_is_not_judged_again(program: Program, tmp_path: Path, monkeypatch: pytest.MonkeyPatch) -> None:
+    path = written(program, tmp_path / "t.csv", Line(), moved("Signal 9", 270))
+    monkeypatch.setattr("balisekit.rules.corrections.trying.TELEGRAMS", 59)
+    assert len(apply(checking.check(program, reader.read(str(path))), tuple(FAMILIES), Options()).entries) == 3
+
+
+@pytest.mark.slow
+def test_entries_of_mistakes() -> None:
+    """One mistake of each kind on a line of the examples. Before corrections were tried: mean 3.2, worst 15, 79 %."""
+    seen = [each for each in entries_of_mistakes.of_line("meaning/line.csv") if each.entries]
+    counts = [len(each.entries) for each in seen]
+    assert len(seen) >= 70 and sum(counts) <= 1.3 * len(seen) and max(counts) <= 4
+    assert sum(each.is_at_row for each in seen) >= 0.95 * len(seen)
