@@ -187,7 +187,7 @@ tree() {
 # pack TO PROGRAM PAPERS MARK: writes tarball, wheel, packages of Debian, SPDX and the archives for other systems that the
 # papers list, of the files as they stand here, with the mark in their names.
 pack() {
-    local name=balisecheck-$version-x86_64-linux$4 others
+    local name=balisecheck-$version-x86_64-linux$4 others answered
     SOURCE_DATE_EPOCH=$(git log -n 1 --format=%ct)
     export SOURCE_DATE_EPOCH LC_ALL=C TZ=UTC
     umask 022
@@ -202,9 +202,12 @@ pack() {
     ! targets_of "$3" >/dev/null || dist/pack/targets.py "$room/$name" out/targets "$1" "$4"
     dist/pack/spdx.py "$room/$name" >"$1/balisecheck-$version$4.spdx.json"
     targets_of "$3" >/dev/null && others=s/^@TARGETS@// || others=/^@TARGETS@/d
+    answered="balisecheck $version, SHA-256 $(said program "$room/$name/$dist"): the program"
+    [ ! -e "$room/$name/$dist/libbalisecheck.so.0" ] ||
+        answered="libbalisecheck $version, SHA-256 $(said library "$room/$name/$dist"): the library"
     sed "$others; ${4:+s/^@UNTESTED@//}; /^@UNTESTED@/d; ${key:+s/^@SIGNED@//; /^@UNSIGNED@/d}; /^@SIGNED@/d; s/^@UNSIGNED@//
         s/@VERSION@/$version/g; s/@MARK@/$4/g; s/@BUILD@/${4:+-0untested}/g
-        s/@PROGRAM@/$(said program "$room/$name/$dist")/" dist/pack/release.md >"$1/README.md"
+        s/@ANSWERED@/$answered/" dist/pack/release.md >"$1/README.md"
 }
 
 # sums DIR: checksums of all files there, and their signature.

@@ -12,7 +12,8 @@ from tiny import write
 
 PAGES = ("README.md", "examples/README.md", "examples/parallel.sh", "man/balisecheck.1", *(
     f"docs/{name}.md" for name in (
-        "refusals", "formats", "findings", "first-line", "added-rules", "guide", "faq", "commands", "performance", "library")))
+        "refusals", "formats", "findings", "first-line", "added-rules", "guide", "faq", "commands", "certificate",
+        "performance", "library", "other-systems")))
 # A tool, the words of commands that need it, and what is skipped without it.
 TOOLS = (("jq", "jq|shared_identities", "recipes by jq"), ("cc", "cc ", "the library for C (gcc)"),
          ("parallel", "check_doc|run_in_|check_tab", "recipes by GNU parallel"))

@@ -14,7 +14,7 @@ pytestmark = pytest.mark.skipif(not (shutil.which("git") and shutil.which("ssh-k
                                 reason="signatures (git, openssh-client)")
 FROM_HERE = ("scripts/verify-release", "dist/allowed_signers", "dist/pack/readme", "dist/pack/first-answer.md",
              "dist/pack/release.md", "dist/pack/targets.py", "LICENSE-APACHE", "LICENSE-MIT", "THIRD-PARTY.md",
-             "docs/module.md")
+             "docs/module.md", "docs/other-systems.md")
 # What stands in for packages. The tarball is the real one.
 STAND_INS = {**dict.fromkeys(("dist/pack/manual", "dist/pack/links", "scripts/install.sh"), "#!/bin/sh\n"),
              "dist/pack/spdx.py": "#!/bin/sh\necho '{}'\n", "README.md": "# A tool\n\n## Try it\n\nit\n",

@@ -237,6 +237,20 @@ def test_wrong_arguments_of_the_module():
     assert json.loads(said_[4]) == {"status": 2, "text": "refused: line 1: wrong size\n"}
 
 
+def test_example_of_the_page(tmp_path):
+    """It runs as printed, and so does one that names the installed package."""
+    need("node")
+    shutil.copytree(WASM, tmp_path / "node_modules" / "balisecheck")
+    shutil.copy(MODULE, tmp_path)
+    page = (TOP / "docs/module.md").read_text("utf-8")
+    example, wanted = re.search(r"(?ms)^```js\n(.*?)^```$.*?^```text\n(.*?)^```$", page).groups()
+    for name, text in ("one.mjs", example), ("other.mjs", example.replace("./balisecheck.mjs", "balisecheck")):
+        (tmp_path / name).write_text(text, "utf-8")
+        assert output(*node(), tmp_path / name) == wanted
+    declared = {*re.findall(r"(?m)^export (?:function|const) (\w+)", (WASM / "balisecheck.d.mts").read_text("utf-8"))}
+    assert declared == {*re.findall(r"`(\w+)(?:\([^`]*\))?`", page.split("| Call |")[1].split("\n\n")[0])} - {"true"}
+
+
 WRONG = """import { check, decode, telegram, type Answer } from "balisecheck";
 const answer: Answer = check("{}");
 const fault: number | undefined = telegram(new Uint8Array()).fault?.reason;

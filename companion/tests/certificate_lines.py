@@ -34,8 +34,8 @@ def station() -> List[Row]:
     """A line with a station of two tracks, which its entry signal leads to by different aspects.
 
     An aspect of the entry signal lets trains run on sight on an occupied track. The routes through the station have
-    sections, a timer of the last one, a danger point and slow switches. Before it there is a temporary restriction,
-    which a later group revokes, and a non stopping area.
+    sections, a timer of the last one and slow switches, and all signals have danger points. Before the station there
+    is a temporary restriction, which a later group revokes, and a non stopping area.
     """
     line = Line(signals=8)
     rows = [replace(row, track="1") for row in line.rows]
@@ -54,6 +54,8 @@ def station() -> List[Row]:
         _on_sight(rows, linking),
         *_side_signal(line, side, beyond),
     ]
+    for row in rows:
+        _with_danger_point(row)
     return sorted(rows, key=lambda row: (row.place - row.balise * SPACING, row.track, row.group, row.balise))
 
 
@@ -63,14 +65,20 @@ def _first(rows: Sequence[Row], group: str) -> Row:
 
 
 def _with_sections(form: Form, length: int) -> None:
-    """An authority gets a section up to the first switch, a timer of the last section, and a danger point."""
+    """An authority gets a section up to the first switch, and a timer of the last section."""
     authority = next(each for each in form["packets"] if each["nid_packet"] == 12)
     authority["sections"] = [
         {"l_section": SWITCH, "section_timer": {"t_sectiontimer": 300, "d_sectiontimerstoploc": 0}}
     ]
     authority["l_endsection"] -= SWITCH
     authority["end_timer"] = {"t_endtimer": 60, "d_endtimerstartloc": 200}
-    authority["danger_point"] = {"d_dp": 50, "v_releasedp": 4}
+
+
+def _with_danger_point(row: Row) -> None:
+    """The authority of a signal that is not at danger gets a danger point."""
+    for each in row.form["packets"]:
+        if each["nid_packet"] == 12 and "overlap" in each:
+            each["danger_point"] = {"d_dp": 50, "v_releasedp": 4}
 
 
 def _restriction(distance: int, length: int) -> Form:

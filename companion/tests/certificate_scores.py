@@ -1,11 +1,14 @@
 """The stored scores of certificates: which mistakes of each kind a check finds on lines of examples and made ones.
 
-`python3 companion/tests/certificate_scores.py` writes certificate_scores.csv and the part of docs/certificate.md that
-is made of it. Do so after a change that finds more. It names each kind that is found less often than before.
+`python3 companion/tests/certificate_scores.py` writes certificate_scores.csv, the part of docs/certificate.md that is
+made of it, and what the pages show of `balisekit certify`. Do so after a change of the rules or of the kinds. It names
+each kind that is found less often than before.
 """
 from __future__ import annotations
 
 import csv
+import re
+import subprocess
 import sys
 import tempfile
 from collections import Counter
@@ -31,8 +34,11 @@ from balisekit.rules.rule import Options  # noqa: E402
 from balisekit.tables import reader  # noqa: E402
 
 STORED = HERE / "certificate_scores.csv"
-PAGE = HERE.parents[1] / "docs" / "certificate.md"
-EXAMPLES = HERE.parents[1] / "examples"
+TOP = HERE.parents[1]
+PAGE, COMMANDS = TOP / "docs" / "certificate.md", TOP / "docs" / "commands.md"
+SHOWN = re.compile(r"^(```console\n\$ (\./balisekit certify .*)\n)[^`]*(?=^```$)", re.MULTILINE)
+"""A command of a page with its output."""
+EXAMPLES = TOP / "examples"
 LINES = ("table/line.csv", "meaning/line.csv", "meaning/level-border.csv", "meaning/both-directions.csv")
 MADE: Mapping[str, Callable[[], Sequence[Row]]] = {
     "station": station,
@@ -223,6 +229,16 @@ def _look_at_reasons(low: Mapping[str, int]) -> None:
         raise SystemExit(f"REASONS of {Path(__file__).name} says nothing of {', '.join(lacking)}")
 
 
+def with_outputs(text: str) -> str:
+    """A page with what its commands `certify` write now."""
+    return SHOWN.sub(lambda shown: shown[1] + _output(shown[2]), text)
+
+
+def _output(command: str) -> str:
+    """What a command writes to standard output."""
+    return subprocess.run(["bash", "-c", command], cwd=TOP, capture_output=True, text=True, check=True).stdout
+
+
 def lower(before: Scores, now: Scores) -> List[str]:
     """The kinds that are found less often than before."""
     pairs = ((key, before.get(key, "").count("F"), answers.count("F")) for key, answers in now.items() if key.kind)
@@ -241,7 +257,8 @@ def main() -> int:
     with STORED.open("w", encoding="utf-8", newline="") as output:
         sheet = csv.writer(output, lineterminator="\n")
         sheet.writerows([HEADING, *((*key, answers) for key, answers in now.items())])
-    PAGE.write_text(page(), "utf-8")
+    PAGE.write_text(with_outputs(page()), "utf-8")
+    COMMANDS.write_text(with_outputs(COMMANDS.read_text("utf-8")), "utf-8")
     less = lower(before, now)
     print("\n".join(less or ["no kind is found less often than before"]))
     return int(bool(less))

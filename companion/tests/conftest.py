@@ -142,7 +142,7 @@ def set_day(monkeypatch: pytest.MonkeyPatch, seconds: int) -> None:
 
 def without_program(text: str) -> str:
     """An answer without version and checksum of the program: stored answers need not be of the program under test."""
-    return re.sub("(?m)^balisecheck( [0-9.]+)?, SHA-256 [0-9a-f]{64}: .+$", "balisecheck", text)
+    return re.sub("(?m)^(?:lib)?balisecheck( [0-9.]+)?, SHA-256 [0-9a-f]{64}: .+$", "balisecheck", text)
 
 
 @pytest.fixture

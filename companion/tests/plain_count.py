@@ -5,7 +5,6 @@ import csv
 import io
 import re
 import unicodedata
-from decimal import Decimal
 from typing import Any, Dict, Iterator, List, NamedTuple, Optional, Set, Tuple
 
 HEXADECIMAL = frozenset("0123456789abcdefABCDEF")

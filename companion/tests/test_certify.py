@@ -133,7 +133,7 @@ def compare(run: Run, program: Program, folder: Path, path: Path, per_kind: int,
 
 @pytest.mark.uncovered
 def test_quick_way(run: Run, program: Program, tmp_path: Path) -> None:
-    """A change is judged in memory as `check` judges the file. Nothing new is said of a change that is counted apart."""
+    """A change is judged in memory as `check` judges the file. One that is counted apart makes nothing new."""
     assert compare(run, program, tmp_path, LINE, 1, slice(None, None, 9)) > 50
 
 
@@ -385,7 +385,7 @@ def test_same_meaning(program: Program, row: int, path: Tuple[object, ...], numb
     ],
 )
 def test_distances(before: Dict[str, Any], after: Dict[str, Any], legal: bool) -> None:
-    """A distance may move by one metre, and without a distance Q_SCALE means nothing. 32,767 is now, and no distance."""
+    """A distance may move by one metre. Q_SCALE means nothing without one, and 32,767 is now."""
     order = {"nid_packet": 41, "q_dir": 1, "q_scale": 1, "transitions": [{"m_leveltr": 3, "l_ackleveltr": 0}], **before}
     form: Any = {"m_mcount": 255, "packets": [order]}
     line: Any = SimpleNamespace(forms={2: form}, group_of={})
@@ -463,6 +463,21 @@ def test_rows_in_the_sentence_of_a_refusal(program: Program, name: str) -> None:
     baseline, made = tried(program, LINE, 2)
     answers = [judged(baseline, each) for each in made if each.mistake.name == name]
     assert [(each.answer, each.rules) for each in answers] == [(Answer.FOUND, ("refused",))] * 2
+
+
+def test_line_with_entries_of_one_cause(program: Program, tmp_path: Path) -> None:
+    """Entries that the line itself has are not new, also if one entry stands for them."""
+    path = tmp_path / "line.csv"
+    path.write_text(LINE.read_text("utf-8").replace(",16.0", ",16.4"), "utf-8")
+    baseline, made = tried(program, path, 1)
+    (entry,) = baseline.outcome.entries
+    assert len(entry.folded) > 1
+    answers = [judged(baseline, each) for each in made if each.mistake.name == "packet twice"]
+    assert not [each for each in answers for other in entry.folded if other.sentence == each.sentence]
+    (twice,) = [
+        each for each in made if "row 17: packet 27, at place 3 of the telegram, is there twice" in each.change.words
+    ]
+    assert judged(baseline, twice).answer is Answer.NOT_FOUND
 
 
 def test_cell_that_is_refused(program: Program) -> None:

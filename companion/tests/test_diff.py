@@ -73,8 +73,8 @@ def test_two_of_824(run: Run, table: Write, rows: List[List[str]], program: Prog
     assert status == 1 and len(entries) == 2
     fields = {line.strip() for line in out if line.startswith("    ")}
     assert fields == {
-        "packet 0 (linking, nominal)  link 0  D_LINK 1000 m [1000] -> 1010 m [1010]",
-        "packet 0 (linking, nominal)  link 0  D_LINK 1000 m [1000] -> 990 m [990]",
+        "packet 5 (linking, nominal), first in the telegram  link 0  D_LINK 1000 m [1000] -> 1010 m [1010]",
+        "packet 5 (linking, nominal), first in the telegram  link 0  D_LINK 1000 m [1000] -> 990 m [990]",
     }
     first = "changed: G5  (group 5 of country or region 352)  position 0  rows 12 and "
     assert any(one.startswith(first) for one in entries)
@@ -112,9 +112,8 @@ def test_a_document_is_as_its_table(run: Run, tmp_path: Path) -> None:
     """The document that `check` has written, with its aspects by their indices."""
     run("check", LINE, "--document", tmp_path / "line.json")
     status, out, _ = run("diff", LINE, tmp_path / "line.json")
-    assert status == 2 and out[-1] == "INCOMPLETE: the content of what was refused is not compared; " + NONE.replace(
-        "removed 0;", "removed 1;", 1
-    )
+    lacks = "the content of what was refused is not compared, names of aspects and messages are not compared"
+    assert status == 2 and out[-1] == f"INCOMPLETE: {lacks}; " + NONE.replace("removed 0;", "removed 1;", 1)
     run("check", LINKS / "line.csv", "--document", tmp_path / "links.json")
     for old, new in (("line.csv", "links.json"), ("links.json", "line.csv"), ("links.json", "links.json")):
         paths = [tmp_path / name if name == "links.json" else LINKS / name for name in (old, new)]
@@ -219,7 +218,11 @@ def test_findings_keep_their_packet(run: Run, table: Write, program: Program) ->
         "diff", table("group,telegram", f"A,{old}", name="old.csv"), table("group,telegram", f"A,{new}", name="new.csv")
     )
     assert status == 1 and out[-1].endswith("findings new 0, gone 0")
-    assert any("packet 0 (level transition order)  added: NID_PACKET level transition order [41]" in one for one in out)
+    assert any(
+        "packet 41 (level transition order), first in the telegram  added: NID_PACKET level transition order [41]"
+        in one
+        for one in out
+    )
 
 
 def test_messages(run: Run, table: Write) -> None:
@@ -254,18 +257,22 @@ def test_a_list_that_grew_shows_its_new_item() -> None:
     new = [linking(1, link(1450, 3, 1), link(1200, 9, 0), link(400, 4, 1), link(900, 5, 1))]
     said = changes(old, new)
     assert len(said) == 2
-    assert said[0].startswith("packet 0 (linking, nominal)  link 1  added: D_LINK 1200 m [1200]  NID_BG 9")
-    assert said[1] == "packet 0 (linking, nominal)  link 2  D_LINK 1600 m [1600] -> 400 m [400]"
+    assert said[0].startswith(
+        "packet 5 (linking, nominal), first in the telegram  link 1  added: D_LINK 1200 m [1200]  NID_BG 9"
+    )
+    assert said[1] == "packet 5 (linking, nominal), first in the telegram  link 2  D_LINK 1600 m [1600] -> 400 m [400]"
     said = changes(new, old)
     assert len(said) == 2
-    assert said[0].startswith("packet 0 (linking, nominal)  link 1 of the old release  removed: D_LINK 1200 m")
+    assert said[0].startswith(
+        "packet 5 (linking, nominal), first in the telegram  link 1 of the old release  removed: D_LINK 1200 m"
+    )
 
 
 def test_units_and_scales() -> None:
     old = link_tables.linking(1, link_tables.link(100, 3, 1))
     assert changes([old], [{**old, "q_scale": 2}]) == [
-        "packet 0 (linking, nominal)  Q_SCALE 1 m [1] -> 10 m [2]",
-        "packet 0 (linking, nominal)  link 0  D_LINK 100 m [100] -> 1000 m [100]",
+        "packet 5 (linking, nominal), first in the telegram  Q_SCALE 1 m [1] -> 10 m [2]",
+        "packet 5 (linking, nominal), first in the telegram  link 0  D_LINK 100 m [100] -> 1000 m [100]",
     ]
 
 
@@ -273,13 +280,13 @@ def test_parts_that_come_and_go() -> None:
     packet = link_tables.authority()[0]
     more = {**packet, "overlap": {"d_startol": 300, "t_ol": 60, "d_ol": 200, "v_releaseol": 126}}
     assert changes([packet], [more]) == [
-        "packet 0 (movement authority of level 1, nominal)  overlap  added: D_STARTOL 300 m [300]  T_OL 60 s [60]  "
+        "packet 12 (movement authority of level 1, nominal), first in the telegram  overlap  added: D_STARTOL 300 m [300]  T_OL 60 s [60]  "
         "D_OL 200 m [200]  V_RELEASEOL calculated on board [126]"
     ]
     assert "overlap  removed: " in changes([more], [packet])[0]
     link = link_tables.linking(1, {**link_tables.link(1, 2, 1), "nid_c": 7})
     assert changes([link], [link_tables.linking(1, link_tables.link(1, 2, 1))]) == [
-        "packet 0 (linking, nominal)  link 0  NID_C 7 -> none"
+        "packet 5 (linking, nominal), first in the telegram  link 0  NID_C 7 -> none"
     ]
 
 
@@ -287,12 +294,12 @@ def test_packets_are_paired_by_number_direction_and_order() -> None:
     one, two, three = ({"nid_packet": 68, "q_dir": 1, "l_packet": 31, "body": body} for body in ("00", "7f", "55"))
     said = changes([one, two, three], [two, three])
     assert [change.split("  ")[0] for change in said] == [
-        "packet 0 of the old release (track condition, balisekit's own layout)"
+        "packet 68 (track condition, balisekit's own layout), first in the telegram of the old release"
     ]
     cover = {"nid_packet": 0, "nid_vbcmk": 1}
     assert changes([one, cover], [cover, one]) == ["the packets stand in another order"]
     assert changes([one], [{**one, "q_dir": 2}]) == [
-        "packet 0 (track condition, both directions, balisekit's own layout)  Q_DIR nominal [1] -> both directions [2]"
+        "packet 68 (track condition, both directions, balisekit's own layout), first in the telegram  Q_DIR nominal [1] -> both directions [2]"
     ]
 
 

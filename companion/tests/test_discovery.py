@@ -20,12 +20,16 @@ def test_a_module_is_a_rule(tmp_path: Path, monkeypatch: pytest.MonkeyPatch) -> 
     folder = tmp_path / "company"
     folder.mkdir()
     (folder / "__init__.py").write_text("", "utf-8")
-    for name in ("E2", "E10", "E1"):
+    for name in ("E2", "E10", *(f"E{number}" for number in (1, *range(3, 10)))):
         (folder / f"{name.lower()}_what.py").write_text(SOURCE.format(name), "utf-8")
     (folder / "words.py").write_text("RULE = None\n", "utf-8")
     monkeypatch.syspath_prepend(tmp_path)
     rules = rules_of("company", [str(folder)])
-    assert [rule.name for rule in rules] == ["E1", "E2", "E10"] and first_to_last(rules) == "E1 to E10"
+    assert [rule.name for rule in rules] == [f"E{number}" for number in range(1, 11)]
+    assert first_to_last(rules) == "E1 to E10"
+    (folder / "e6_what.py").unlink()
+    with pytest.raises(ImportError, match="the file of the rule E6 is missing: install balisekit again"):
+        rules_of("company", [str(folder)])
 
 
 def test_each_family_has_all_its_modules() -> None:

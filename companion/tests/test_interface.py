@@ -39,10 +39,12 @@ MEMBERS = {
     "AddedRule": "name page looks_at sentence find urgency needs_kilometres is_default",
     "Call": "status fault text",
     "Difference": "status last_line lines unchanged whole to_json()",
-    "Finding": "rule family rows group aspect direction km sentence values urgency expected accepted message program folded",
+    "Finding": "rule family rows group aspect direction km sentence values urgency expected accepted "
+    "message program folded",
     "GroupView": "name km track identity unread telegrams remark()",
     "KitError": "lines() status",
-    "Library": "path find() version check() findings() decode() decode_radio() encode() encode_radio() telegram() message()",
+    "Library": "path find() version check() findings() decode() decode_radio() encode() encode_radio() "
+    "telegram() message()",
     "LineView": "groups telegrams messages",
     "MessageView": "line name form packets() remark()",
     "Messages": "path sha256",

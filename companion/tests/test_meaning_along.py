@@ -301,9 +301,11 @@ def links_of(group: str, place: int, metres: int) -> Change:
 
 def test_e14(found: Found) -> None:
     """The tolerance itself, and what is beyond Q_LOCACC and rounding, are none."""
-    made = [found("E14", SHORT, links_of("Signal 4", 0, metres)) for metres in (3, 4, 7, 8, -4)]
+    made = [found("E14", SHORT, links_of("Signal 4", 0, metres)) for metres in (2, 3, 7, 8, -4)]
     assert [len(each) for each in made] == [0, 1, 1, 0, 1]
-    assert made[1][0].values == {"metres_by_d_link": Decimal(1504), "metres_by_kilometres": Decimal(1500)}
+    stated = ASKED._replace(tolerance=Decimal(1), tolerance_of_places=Decimal(1))
+    assert not found("E14", SHORT, links_of("Signal 4", 0, 3), stated)
+    assert made[1][0].values == {"metres_by_d_link": Decimal(1503), "metres_by_kilometres": Decimal(1500)}
     assert [len(found("L2", SHORT, links_of("Signal 4", 0, metres))) for metres in (7, 8)] == [0, 1]
     assert "by the kilometres it is 1503 m to balise 1 of Signal 5 (km 16.000), row 19" in made[1][0].sentence
 
@@ -870,8 +872,8 @@ def test_e13_of_q_front(found: Found) -> None:
 
     (one,) = found("E13", SHORT, front("Signal 2", GREEN))
     assert one.sentence == (
-        "at km 12.950, where V_STATIC rises from 100 km/h to 140 km/h, Q_FRONT is 1 (holds until the front has passed), "
-        'and 0 by Signal 1 (km 10.000), aspect "green", row 5'
+        "at km 12.950, where V_STATIC rises from 100 km/h to 140 km/h, Q_FRONT is 1 (holds until the front has passed)"
+        ', and 0 by Signal 1 (km 10.000), aspect "green", row 5'
     )
     assert one.location.row and one.location.row.aspect == GREEN
     everywhere = [front("Signal 1", GREEN), front("Signal 2", YELLOW), front("Signal 2", GREEN)]

@@ -2,6 +2,7 @@
 from __future__ import annotations
 
 from dataclasses import replace
+from decimal import Decimal
 from functools import partial
 from pathlib import Path
 from typing import Any, List, Optional, Sequence, Tuple
@@ -322,6 +323,27 @@ def test_e10(program: Program, tmp_path: Path) -> None:
     )
 
 
+def test_e10_of_profiles_that_are_rounded_alike(program: Program, tmp_path: Path) -> None:
+    """A step 1 m farther is another place if both have one Q_SCALE. The tolerance counts if it is stated."""
+
+    def moved(metres: int, unit: int) -> Change:
+        def move(rows: List[Row]) -> None:
+            packet = change(rows, "Signal 2", YELLOW, 27)
+            for each in packet["elements"]:
+                each["d_static"] *= 10 // unit
+            packet["elements"][1]["d_static"] += metres * 10 // unit
+            packet["q_scale"] = (1, 10).index(unit)
+
+        return move
+
+    path = tmp_path / "t.csv"
+    (one,) = found(program, path, "E10", moved(1, 10))
+    assert [int(one.values[name]) for name in ("begin_m", "end_m")] == [1450, 1451]
+    assert not found(program, path, "E10", moved(1, 1)) and found(program, path, "E10", moved(9, 1))
+    stated = Options(tolerance=Decimal(1))
+    assert not remarks(program, written(program, path, SHORT, moved(1, 10)), stated, ["E10"])
+
+
 def test_e10_names_the_longest_stretch(program: Program, tmp_path: Path) -> None:
     """Red is known for the overlap only, and yellow has two speeds where green has one."""
 
@@ -438,6 +460,8 @@ def test_e24_of_speeds(program: Program, tmp_path: Path) -> None:
     """V_MAIN is the greatest V_STATIC at all other signals, or one speed. A signal may have a speed of its own."""
     (one,) = found(program, tmp_path / "t.csv", "E24", packet_with(3, GREEN, 12, v_main=40))
     assert "V_MAIN is 200 km/h [40] and the greatest V_STATIC" in one.sentence
+    assert not found(program, tmp_path / "t.csv", "E24", element_with(3, YELLOW, 27, 0, v_static=32))  # (E10)
+    assert not found(program, tmp_path / "t.csv", "E24", packet_with(3, GREEN, 12, v_main=120))  # (E2)
     low = packet_with(3, GREEN, 12, v_main=10)
     assert len(found(program, tmp_path / "t.csv", "E24", low)) == 1
     assert not found(program, tmp_path / "t.csv", "E24", low, packet_with(3, YELLOW, 12, v_main=10))

@@ -155,6 +155,20 @@ def test_e3(program: Program, tmp_path: Path) -> None:
     ]
 
 
+def test_e3_of_timers_that_run_out_at_once(program: Program, tmp_path: Path) -> None:
+    timer = {"t_sectiontimer": 0, "d_sectiontimerstoploc": 100}
+    changes = [
+        packet_with(1, YELLOW, 12, section_timer=timer),
+        packet_with(2, YELLOW, 12, end_timer={"t_endtimer": 0, "d_endtimerstartloc": 400}),
+        packet_with(3, YELLOW, 12, overlap={**overlap(100, 200), "t_ol": 0}),
+        packet_with(4, YELLOW, 12, overlap=None, end_speed=4, end_timeout=0),
+    ]
+    words = ("T_SECTIONTIMER is 0 s", "T_ENDTIMER is 0 s", "T_OL is 0 s", "T_LOA is 0 s, and V_LOA is 20 km/h [4]")
+    assert found(program, tmp_path / "t.csv", "E3", changes) == [
+        (row_of(signal, YELLOW), each) for signal, each in enumerate(words, 1)
+    ]
+
+
 def _main(signal: int) -> str:
     main = change(SHORT.rows, f"Signal {signal}", YELLOW, 12)["v_main"]
     return f"{main * 5} km/h [{main}]"

@@ -563,18 +563,20 @@ def test_places_of_infill_count_from_elsewhere() -> None:
 def test_differences_are_of_variables() -> None:
     """With units, and without the body. Of a packet that does not fit, the body differs too."""
     old, new = (telegram(packet(65, spelled(f"1/2 3/8 500/15 300/15 0/1 {speed}/7"))) for speed in (16, 8))
-    where = "packet 0 (temporary speed restriction, nominal, balisekit's own layout)"
+    where = "packet 65 (temporary speed restriction, nominal, balisekit's own layout), first in the telegram"
     assert [str(each) for each in differences(old, new)] == [f"{where}  V_TSR 80 km/h [16] -> 40 km/h [8]"]
     assert differences(old, old) == []
     long = telegram(packet(65, spelled("1/2 3/8 500/15 300/15 0/1 8/7 0/1")))
     names = [change.name for change in differences(old, long)]
     assert names == ["L_PACKET", "body", "V_TSR"]
     crossing, other = (telegram(packet(88, spelled(f"1/2 3/8 {place}/15 30/15 0/1"))) for place in (500, 600))
-    wanted = "packet 0 (level crossing information, nominal, layout not certain)  D_LX 500 m [500] -> 600 m [600]"
+    wanted = "packet 88 (level crossing information, nominal, layout not certain), first in the telegram  D_LX 500 m [500] -> 600 m [600]"
     assert [str(each) for each in differences(crossing, other)] == [wanted]
     nobody = (telegram(packet(33, bits)) for bits in ("101", "110"))
     said = [str(each) for each in differences(*nobody)]
-    assert said == ["packet 0 (not named here, nominal)  body 3 bits, not decoded [a0] -> 3 bits, not decoded [c0]"]
+    assert said == [
+        "packet 33 (not named here, nominal), first in the telegram  body 3 bits, not decoded [a0] -> 3 bits, not decoded [c0]"
+    ]
 
 
 def test_packets_that_come_and_go() -> None:
@@ -583,8 +585,8 @@ def test_packets_that_come_and_go() -> None:
     new = telegram(packet(46, spelled("2/3 1/5 3/3")), packet(66, spelled("3/8")))
     own = "balisekit's own layout"
     assert [str(each) for each in differences(old, new)][1:] == [
-        f"packet 0 (conditional level transition order, nominal, {own})  choice 1  added: M_LEVELTR level 2 [3]",
-        f"packet 1 (temporary speed restriction revocation, {own})  added: NID_PACKET temporary speed restriction "
+        f"packet 46 (conditional level transition order, nominal, {own}), first in the telegram  choice 1  added: M_LEVELTR level 2 [3]",
+        f"packet 66 (temporary speed restriction revocation, {own}), second in the telegram  added: NID_PACKET temporary speed restriction "
         "revocation [66]  Q_DIR nominal [1]  L_PACKET 31 bits [31]  NID_TSR 3",
     ]
 
@@ -695,7 +697,7 @@ def test_bits(program: Program, run: Run, table: Write) -> None:
     """Each variable has its bits of the telegram, and so have those that the JSON would leave out."""
     path = table(HEAD, row_of(program, packet(66, spelled("3/8")), packet(46, spelled("2/3 1/5 1/3 9/8 1/2"))))
     status, out, _ = run("show", path, "--bits")
-    begin = next(place for place, line in enumerate(out) if line.startswith("  packet 1"))
+    begin = next(place for place, line in enumerate(out) if line.startswith("  packet 46 "))
     assert status == 0 and [" ".join(line.split()) for line in out[begin + 4 : begin + 11]] == [
         "bits 104 to 124 body 21 bits [412128]",
         f"{TRACK_NOTE}; the packet has 2 bits more than its layout: bits 42 to 43 of it:",

@@ -555,7 +555,7 @@ def test_links_name_the_finding_that_may_cause_them(program: Program, tmp_path: 
     items = list(line_table.items())
     assert not apply(table_of(program, tmp_path, items), "L", Options()).parts[0].items
     mistake(items)
-    (part,) = apply(table_of(program, tmp_path, items), "L", Options()).parts
+    (part,) = apply(table_of(program, tmp_path, items), "L", Options(), with_causes=False).parts
     assert {entry.rule: entry.sentence for entry in part.entries} == LINKS[mistake]
 
 

@@ -18,7 +18,8 @@ TELEGRAM = re.compile(r"<details id=r(\d+)[^>]*>(?:(?!</details>).)*?</pre><pre>
 EVERYTHING = re.compile(r"everything as in <a href=#r(\d+)>row \1</a>\n")
 HEADER = re.compile(r"header\tas in <a href=#r(\d+)>row \1</a>(?:, but (.*)|, M_MCOUNT \d+ too)\n")
 PACKET = re.compile(
-    r"  packet (\d+)\t(NID_PACKET [^:\n]*): as (?:in|packet (\d+) of) <a href=#r(\d+)>row \4</a>(?:, but\n(.*))?\n",
+    r"  packet (\d+, \d+\w\w)\t(NID_PACKET [^:\n]*): as (?:in|the (\d+)\w\w packet of) <a href=#r(\d+)>row \4</a>"
+    r"(?:, but\n(.*))?\n",
     re.DOTALL,
 )
 
@@ -53,7 +54,7 @@ def part_at(part: str, whole: Dict[int, str]) -> str:
             assert count == 1
         return text
     if packet:
-        text = parts_of(whole[int(packet[4])])[1 + int(packet[3] or packet[1])]
+        text = parts_of(whole[int(packet[4])])[int(packet[3] or packet[1].split()[1][:-2])]
         assert text.partition("\t")[2].startswith(packet[2])
         text = f"  packet {packet[1]}\t{text.partition(chr(9))[2]}"
         return changed(text, packet[5].split("\n")) if packet[5] else text
@@ -137,19 +138,19 @@ def test_what_is_alike_is_said_once(run: Run, alike: Path) -> None:
     links = [re.sub("</?a[^>]*>", "", line) for line in lines if "<a" in line]
     assert links == [
         "header\tas in row 3, but M_MCOUNT 2",
-        "  packet 0\tNID_PACKET linking [5]: as in row 3",
-        "  packet 1\tNID_PACKET movement authority of level 1 [12]: as in row 3, but",
-        "  packet 2\tNID_PACKET gradient profile [21]: as in row 3",
-        "  packet 3\tNID_PACKET international static speed profile [27]: as in row 3",
+        "  packet 5, 1st\tNID_PACKET linking [5]: as in row 3",
+        "  packet 12, 2nd\tNID_PACKET movement authority of level 1 [12]: as in row 3, but",
+        "  packet 21, 3rd\tNID_PACKET gradient profile [21]: as in row 3",
+        "  packet 27, 4th\tNID_PACKET international static speed profile [27]: as in row 3",
         "header\tas in row 3, but M_MCOUNT 3 and NID_BG 102",
-        "  packet 0\tNID_PACKET movement authority of level 1 [12]: as packet 1 of row 3, but",
-        "  packet 1\tNID_PACKET gradient profile [21]: as packet 2 of row 3",
-        "  packet 2\tNID_PACKET international static speed profile [27]: as packet 3 of row 3",
-        "  packet 3\tNID_PACKET linking [5]: as packet 0 of row 3",
+        "  packet 12, 1st\tNID_PACKET movement authority of level 1 [12]: as the 2nd packet of row 3, but",
+        "  packet 21, 2nd\tNID_PACKET gradient profile [21]: as the 3rd packet of row 3",
+        "  packet 27, 3rd\tNID_PACKET international static speed profile [27]: as the 4th packet of row 3",
+        "  packet 5, 4th\tNID_PACKET linking [5]: as the 1st packet of row 3",
         "everything as in row 4",
         "everything as in row 3",
         "header\tas in row 3, M_MCOUNT 1 too",
-        "  packet 0\tNID_PACKET linking [5]: as in row 3",
+        "  packet 5, 1st\tNID_PACKET linking [5]: as in row 3",
     ]
 
 
@@ -177,4 +178,7 @@ def test_a_packet_that_an_entry_is_about_is_written_out(run: Run, tmp_path: Path
         (marked,) = re.findall(f"<mark id=r{row}p1>(.*?)</mark>", texts[row], re.DOTALL)
         assert "gradient profile [21]" in marked and "element 1" in marked and "<a" not in marked
     assert [text.count("<a") for text in texts.values()] == [0, 0, 3, 3]
-    assert "  packet 2\tNID_PACKET international static speed profile [27]: as in <a href=#r3>row 3</a>\n" in texts[5]
+    assert (
+        "  packet 27, 3rd\tNID_PACKET international static speed profile [27]: as in <a href=#r3>row 3</a>\n"
+        in texts[5]
+    )

@@ -2,12 +2,13 @@
 """Writes the archives of a release for other systems into TO:   targets.py TREE BUILT TO MARK
 
 TREE is the folder of the release, whose ABOUT lists the files, and BUILT has them (out/targets). Each archive also has
-the licences, ABOUT, and the header or the page that belongs to its library. SOURCE_DATE_EPOCH is the time of all files.
-MARK is empty or -untested.
+the licences, ABOUT, its page, and the header of its library. SOURCE_DATE_EPOCH is the time of all files. MARK is empty
+or -untested.
 """
 import gzip
 import io
 import os
+import re
 import sys
 import tarfile
 import time
@@ -16,18 +17,20 @@ from pathlib import Path
 
 TIME = int(os.environ.get("SOURCE_DATE_EPOCH", "0"))
 PAPERS = "LICENSE-APACHE", "LICENSE-MIT", "THIRD-PARTY.md", "dist/x86_64-linux/ABOUT"
-HEADER, MANUAL = "crates/balisecheck_c/include/balisecheck.h", "balisecheck.1"
-# For each system: what goes beside its files, and the name of its archive, in which npm wants the folder `package`.
-ARCHIVES = {"aarch64-linux": ([HEADER, MANUAL], "balisecheck-{}-aarch64-linux{}.tar.gz"),
-            "x86_64-windows": ([HEADER], "balisecheck-{}-x86_64-windows{}.zip"),
-            "wasm64": (["docs/module.md"], "balisecheck-{}{}.tgz")}
+HEADER, MANUAL, PAGE = "crates/balisecheck_c/include/balisecheck.h", "balisecheck.1", "docs/other-systems.md"
+# For each system: its page, what else goes beside its files, and its archive, in which npm wants the folder `package`.
+ARCHIVES = {"aarch64-linux": (PAGE, [HEADER, MANUAL], "balisecheck-{}-aarch64-linux{}.tar.gz"),
+            "x86_64-windows": (PAGE, [HEADER], "balisecheck-{}-x86_64-windows{}.zip"),
+            "wasm64": ("docs/module.md", [], "balisecheck-{}{}.tgz")}
 
 
-def contents(tree, built, system, others):
+def contents(tree, built, system, page, others):
     """The files of an archive by their names, each with its bytes and whether it can be run."""
     paths = [*sorted((built / system).iterdir()), *(tree / name for name in (*PAPERS, *others))]
-    renamed = {"module.md": "README.md"}
-    return {renamed.get(path.name, path.name): (path.read_bytes(), path.name == "balisecheck") for path in paths}
+    # (the pages that it links are not here)
+    text = re.sub(r"\[([^]]*)\]\((?!https?:)[^)]*\)", r"\1", (tree / page).read_text("utf-8"))
+    return {**{path.name: (path.read_bytes(), path.name == "balisecheck") for path in paths},
+            "README.md": (text.encode(), False)}
 
 
 def zipped(folder, files):
@@ -56,10 +59,10 @@ def main(tree, built, to, mark):
     """Writes each archive."""
     tree, built = Path(tree), Path(built)
     about = dict(line.split(" ", 1) for line in (tree / PAPERS[-1]).read_text("utf-8").splitlines())
-    for system, (others, name) in ARCHIVES.items():
+    for system, (page, others, name) in ARCHIVES.items():
         path = Path(to, name.format(about["version"], mark))
         folder = "package" if path.suffix == ".tgz" else path.name.removesuffix(".zip").removesuffix(".tar.gz")
-        files = contents(tree, built, system, others)
+        files = contents(tree, built, system, page, others)
         path.write_bytes((zipped if path.suffix == ".zip" else tarred)(folder, files))
 
 

@@ -1,8 +1,6 @@
 """Tables with telegrams that a green could hide: each is judged, refused, or named as not judged (accounts.json)."""
 from __future__ import annotations
 
-import csv
-import io
 import json
 import re
 import xml.etree.ElementTree as ElementTree
@@ -254,7 +252,9 @@ def test_a_message_in_a_name(table: Write, name: str) -> None:
         "][",
     ]
     for text in (MESSAGE, *(each.join(groups) for each in between for groups in (pairs, fours))):
-        with pytest.raises(TableErrors, match="line 1: after the semicolon are digits as a message has: write one message per line"):
+        with pytest.raises(
+            TableErrors, match="line 1: after the semicolon are digits as a message has: write one message per line"
+        ):
             messages.read(str(table(f"{MESSAGE};{name.format(text)}", name="m.txt")))
 
 

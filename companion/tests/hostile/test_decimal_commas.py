@@ -40,3 +40,23 @@ def test_a_kilometre_of_a_plan_in_two_cells(run: Run, table: Callable[..., Path]
     path, plan = table("group,telegram,km", f"A,{ALONE},1.234"), table(*lines, name="plan.csv")
     status, _, err = run("check", path, "--plan", plan)
     assert status == 2 and err[0].startswith(f"balisekit: {plan}: row {row}, column km") and "decimal comma" in err[0]
+
+
+@pytest.mark.parametrize(
+    "rows, wanted",
+    [
+        (["A,NID_BG,1000,5", "A,NID_C,1,"], [2]),
+        (["A,NID_BG,1000,5", "A,NID_C,1"], [2]),
+        (["A,NID_BG,1000,5", "A,NID_C,1,7"], []),
+        (["A,NID_BG,1000,", "A,NID_C,1,see 5"], []),
+        (['A,NID_BG,"1000,5",', "A,NID_C,1,"], []),
+    ],
+)
+def test_an_expected_value_in_two_cells(
+    run: Run, table: Callable[..., Path], rows: List[str], wanted: List[int]
+) -> None:
+    """It is refused. Numbers behind all values are a column of their own."""
+    path, sheet = table("group,telegram", f"A,{ALONE}"), table("group,variable,value,remark", *rows, name="sheet.csv")
+    status, _, err = run("table", path, "--expect", sheet)
+    found = [re.search("row ([0-9]+), column value: .*a decimal comma", line) for line in err]
+    assert [int(each[1]) for each in found if each] == wanted and (not wanted or status == 2), err

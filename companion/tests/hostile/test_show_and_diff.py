@@ -426,7 +426,7 @@ def test_a_line_without_an_end(monkeypatch: pytest.MonkeyPatch, run: Run) -> Non
 
 
 def test_a_document_and_a_table_are_paired_by_order(run: Run, table: Write, program: Program, tmp_path: Path) -> None:
-    """Names that were exchanged in the table are no difference, so a note in all outputs says what is not compared."""
+    """Names that were exchanged in the table are no difference: a note says what is not compared, with status 2."""
     rows = rows_of(program, [("S", name, form) for name, form in of_aspects({"red": 1, "green": 2})])
     old, said = table("group,aspect,telegram", *rows, name="old.csv"), table(content=f"{MESSAGE}; radio\n".encode())
     named = [row.replace(",red,", ",x,").replace(",green,", ",red,").replace(",x,", ",green,") for row in rows]
@@ -443,6 +443,7 @@ def test_a_document_and_a_table_are_paired_by_order(run: Run, table: Write, prog
         (new, tmp_path / "old.json", "--old-messages", said),
     ):
         status, out, _ = run("diff", *words, *outputs)
-        assert status == 0 and f"note: {note}" in out and out[-1].endswith("findings new 0, gone 0"), out
+        assert status == 2 and f"note: {note}" in out and out[-1].endswith("findings new 0, gone 0"), out
+        assert out[-1].startswith("INCOMPLETE: names of aspects and messages are not compared; groups added 0, ")
         assert note in json.loads((tmp_path / "d.json").read_text("utf-8"))["notes"]
         assert note in (tmp_path / "d.html").read_text("utf-8")

@@ -236,6 +236,24 @@ def test_a_damaged_module(name: str, text: str, tmp_path: Path) -> None:
         assert err
 
 
+def test_an_empty_start(tmp_path: Path) -> None:
+    """Python ends with status 0 if the file that it runs is empty, as after a full disk."""
+    command = layout(tmp_path / "wheel")
+    (empty,) = command.parents[1].rglob("balisekit/start.py")
+    empty.write_text("", "utf-8")
+    status, out, err = start(f"check {LINE}", tmp_path, command=str(command))
+    assert (status, out) == (3, "") and err.endswith("start.py is empty or cannot be read: install balisekit again\n")
+
+
+def test_a_rule_whose_file_is_missing(tmp_path: Path) -> None:
+    """The answer would say that the rules before and after it found nothing."""
+    command = layout(tmp_path / "wheel")
+    (rule,) = command.parents[1].rglob("l6_*.py")
+    rule.unlink()
+    status, out, err = start(f"check {LINE}", tmp_path, command=str(command))
+    assert (status, out) == (3, "") and "the file of the rule L6 is missing" in err
+
+
 @pytest.mark.parametrize("packages", ["lib/{}/site-packages", "lib64/{}/site-packages", "lib/{}/dist-packages", "."])
 def test_a_wheel_without_an_interpreter_beside(packages: str, tmp_path: Path) -> None:
     """As by `pip install` with --user, --prefix or --target, on Fedora and on Debian; also through a link."""

@@ -33,7 +33,9 @@ def filled(text: str, telegram: str) -> str:
         return telegram[int(int(found[1]) * scale) : int(int(found[2]) * scale)]
 
     text = text.replace("{54}", telegram)
-    return re.sub(r"{(?P<size>[0-9]+)(?P<short>-?) (?P<between>[^}]*)}", groups, re.sub(r"{(\d+)\.\.(\d+)}", part, text))
+    return re.sub(
+        r"{(?P<size>[0-9]+)(?P<short>-?) (?P<between>[^}]*)}", groups, re.sub(r"{(\d+)\.\.(\d+)}", part, text)
+    )
 
 
 def cells_of(line: str, telegram: str) -> List[str]:

@@ -473,7 +473,8 @@ def test_telegrams_in_comments(table: Write) -> None:
     comments = f"<comments xmlns='{MAIN}'><comment ref='B2'><text><t>{OTHER}</t></text></comment></comments>"
     part = ("xl/comments1.xml", "comments", comments)
     notes = tables.read(str(table(content=workbook(sheet(HEADING, GOOD), more=[part])))).notes
-    said = "digits as telegrams have in comments, text boxes and other parts that are not read: 1, the first in xl/comments1.xml"
+    parts = "comments, text boxes and other parts that are not read"
+    said = f"digits as telegrams have in {parts}: 1, the first in xl/comments1.xml"
     assert said in notes
 
 
@@ -500,7 +501,9 @@ def test_telegrams_in_other_parts(name: str, table: Write) -> None:
         content = workbook(sheet(*rows), more=[(part, "other", xml)] if xml else [])
     notes = tables.read(str(table(content=content))).notes
     said = f"digits as telegrams have in comments, text boxes and other parts that are not read: 1, the first in {part}"
-    assert [note for note in notes if note.startswith("digits as telegrams have in ")] == ([said] if case["is found"] == "yes" else [])
+    assert [note for note in notes if note.startswith("digits as telegrams have in ")] == (
+        [said] if case["is found"] == "yes" else []
+    )
 
 
 def strings_of(part: str, *texts: str) -> Any:

@@ -6,6 +6,7 @@ from collections import Counter
 from dataclasses import dataclass
 from datetime import date
 from enum import Enum
+from itertools import chain
 from typing import Any, FrozenSet, Iterator, Mapping, NamedTuple, Optional, Sequence, Tuple
 
 from balisekit.certificate.changed_table import changed_messages, changed_table
@@ -88,7 +89,7 @@ class Baseline:
 
     def __init__(self, outcome: Outcome, judge: Judge) -> None:
         self.outcome, self.judge = outcome, judge
-        self._named = Counter(_named(outcome))
+        self._named = {with_causes: Counter(_named(outcome, with_causes)) for with_causes in (False, True)}
         self._findings = Counter(_findings(outcome))
         self._hints = Counter(_hints(outcome))
 
@@ -102,18 +103,19 @@ class Baseline:
             checked = self.outcome.checked
             table = changed_table(checked.table, change, texts, self.judge.by_position)
             messages = changed_messages(checked.messages, change, texts)
-            judgement = self._judgement(change, self.judge.outcome(checked.program, table, messages, False))
+            judgement = self._judgement(change, table, messages, with_causes=False)
             # (an entry that stands for others names all rows that these name, and those of its correction)
             if judgement.answer is Answer.ELSEWHERE:
-                judgement = self._judgement(change, self.judge.outcome(checked.program, table, messages))
+                judgement = self._judgement(change, table, messages, with_causes=True)
             return judgement
         except (TableError, TableErrors) as error:
             refused = [Named(REFUSED, str(fault), rows_of_refusal(fault)) for fault in error.faults]
             return _said(change, refused, ())
 
-    def _judgement(self, change: Change, outcome: Outcome) -> Judgement:
-        """What the answer about a changed line says of the change."""
-        new = list((Counter(_named(outcome)) - self._named).elements())
+    def _judgement(self, change: Change, table: Table, messages: Optional[Messages], with_causes: bool) -> Judgement:
+        """What the answer about a changed line says of the change, compared with the same of the line itself."""
+        outcome = self.judge.outcome(self.outcome.checked.program, table, messages, with_causes)
+        new = list((Counter(_named(outcome, with_causes)) - self._named[with_causes]).elements())
         judgement = _said(change, new, self._new_hints(Counter(_hints(outcome))))
         if change.legal and judgement.answer is Answer.NOT_FOUND and not Counter(_findings(outcome)) - self._findings:
             return Judgement(Answer.LEGAL, sentence=change.legal)
@@ -137,9 +139,13 @@ def _said(change: Change, new: Sequence[Named], hints: Sequence[str]) -> Judgeme
     return Judgement(Answer.HINTED, (), hints[0]) if hints else Judgement(Answer.NOT_FOUND)
 
 
-def _named(outcome: Outcome) -> Iterator[Named]:
-    """The open entries of an answer, and what was refused. What is expected on correct data is not among them."""
-    for entry in outcome.entries:
+def _named(outcome: Outcome, with_causes: bool) -> Iterator[Named]:
+    """The open entries of an answer, and what was refused. What is expected on correct data is not among them.
+
+    Without causes an entry that stands for others is not there, and these are.
+    """
+    entries = chain.from_iterable((entry,) if with_causes else entry.folded or (entry,) for entry in outcome.entries)
+    for entry in entries:
         if not entry.expected and not outcome.acceptances(entry):
             yield Named(entry.rule, entry.sentence, _rows(entry), _place(entry))
     for each in outcome.checked.refused:
@@ -151,10 +157,9 @@ def _named(outcome: Outcome) -> Iterator[Named]:
 def _findings(outcome: Outcome) -> Iterator[Tuple[Any, ...]]:
     """All findings of the program, whether or not anybody has asked for them."""
     for each in outcome.checked.findings:
-        group, row, message = each.group and each.group.name, each.row and each.row.number, each.message
-        yield each.finding.rule, each.finding.direction, group, each.aspect, row, message and message.number, str(
-            each.statement
-        )
+        numbers = (each.row and each.row.number, each.message and each.message.number)
+        place = (each.group and each.group.name, each.aspect, each.finding.direction, *numbers)
+        yield each.finding.rule, str(each.statement), place
 
 
 def rows_of_refusal(fault: TableError) -> FrozenSet[int]:

@@ -48,6 +48,7 @@ def run(options: argparse.Namespace) -> int:
     old, new = (_checked(program, *side, named) for side in sides)
     tables = [table for table, _, document in sides if document is None]
     found = compare(old, replace(new, settings=in_force(options, tables)), named)
+    found.lacks_names = not named and any(_has_names(*side[:2]) for side in sides if side[2] is None)
     if options.html:
         options.html.write(page(found, now))
     if options.json:
@@ -64,6 +65,12 @@ def _read(path: str, messages: Optional[str], how: Dict[str, Any]) -> Tuple[Tabl
     if messages:
         raise TableError(f"{path}: a document contains its messages: leave out {messages}")
     return (*document_file.read(file), file)
+
+
+def _has_names(table: Table, messages: Optional[Messages]) -> bool:
+    """Whether a table names aspects or messages, which a document does not."""
+    has_aspects = any(len(group.aspects) > 1 for group in table.groups)
+    return has_aspects or any(message.name for message in (messages.messages if messages else ()))
 
 
 def _checked(

@@ -67,6 +67,8 @@ class Difference:
     findings_new: List[Place] = field(default_factory=list)
     findings_gone: List[Place] = field(default_factory=list)
     notes: List[str] = field(default_factory=list)
+    lacks_names: bool = False
+    """Whether a table has names of aspects or messages that a document lacks, so that they are not compared."""
 
     def __repr__(self) -> str:
         paths = [side.checked.table.path for side in (self.old, self.new)]
@@ -85,12 +87,12 @@ class Difference:
 
     @property
     def whole(self) -> bool:
-        """Whether all telegrams and messages could be compared."""
-        return self.old.checked.whole and self.new.checked.whole
+        """Whether all telegrams and messages could be compared, and all names of aspects and messages."""
+        return self.old.checked.whole and self.new.checked.whole and not self.lacks_names
 
     @property
     def status(self) -> int:
-        """2 if anything was refused, 1 if anything differs, else 0."""
+        """2 if anything was refused or not compared, 1 if anything differs, else 0."""
         groups = self.groups_added or self.groups_removed or self.groups_renumbered
         telegrams = self.added or self.removed or self.changed or self.respelled or self.exchanged
         return 2 if not self.whole else int(bool(groups or telegrams or self.findings_new or self.findings_gone))

@@ -21,6 +21,7 @@ from balisekit.etcs.variables import (
     value_words,
     variable_name,
 )
+from balisekit.tables.names import ordinal
 
 Pair = Tuple[Optional[int], Optional[int]]
 """Indices in the old list and in the new one. One of them can be None."""
@@ -76,16 +77,19 @@ class Change(NamedTuple):
 def differences(old: Form, new: Form) -> List[Change]:
     """All that differs between two forms."""
     before, after = (Around(from_track=form.get("nid_message") != 136) for form in (old, new))
+    whole = "message" if "nid_message" in new else "telegram"
     changes = list(_object((), old, new, before, after))
     pairs = packet_pairs(old["packets"], new["packets"])
     for was, now in pairs:
         if was is None and now is not None:
-            changes.append(_packet_alone(ADDED, f"packet {now}", new["packets"][now], after))
+            changes.append(_packet_alone(ADDED, f"{ordinal(now)} in the {whole}", new["packets"][now], after))
         elif now is None and was is not None:
-            changes.append(_packet_alone(REMOVED, f"packet {was} of the old release", old["packets"][was], before))
+            where = f"{ordinal(was)} in the {whole}"
+            changes.append(_packet_alone(REMOVED, where, old["packets"][was], before))
         elif was is not None and now is not None:
             packet = new["packets"][now]
-            label = f"packet {now} ({_packet_words(packet, after, DIRECTIONS.get(packet.get('q_dir', -1), ''))})"
+            words = _packet_words(packet, after, DIRECTIONS.get(packet.get("q_dir", -1), ""))
+            label = f"{words}, {ordinal(now)} in the {whole}"
             packets = _with_contents(old["packets"][was], packet, before, after)
             changes += _object((PathStep(label),), *packets, before, after)
     both = [now for _, now in sorted((was, now) for was, now in pairs if was is not None and now is not None)]
@@ -97,15 +101,17 @@ def packet_differences(old: Values, new: Values) -> List[Change]:
     return list(_object((), old, new, Around(), Around()))
 
 
-def _packet_alone(kind: str, place: str, packet: Form, around: Around) -> Change:
+def _packet_alone(kind: str, where: str, packet: Form, around: Around) -> Change:
     read = with_content(packet, around.from_track, keeps_body=False)
-    return _part((PathStep(f"{place} ({_packet_words(packet, around)})"),), kind, read, around)
+    label = PathStep(f"{_packet_words(packet, around)}, {where}", is_old=kind == REMOVED)
+    return _part((label,), kind, read, around)
 
 
 def _packet_words(packet: Form, around: Around, direction: str = "") -> str:
-    """The name of a packet, its direction, and by which layout it is read if that is balisekit's own."""
-    names = packet_name(packet["nid_packet"], around.from_track), direction, layout_words(packet, around.from_track)
-    return ", ".join(filter(None, names))
+    """A packet by NID_PACKET, with its name, its direction, and its layout if that is balisekit's own."""
+    number = packet["nid_packet"]
+    names = packet_name(number, around.from_track), direction, layout_words(packet, around.from_track)
+    return f"packet {number} ({', '.join(filter(None, names))})"
 
 
 def _with_contents(old: Form, new: Form, before: Around, after: Around) -> Tuple[Values, Values]:

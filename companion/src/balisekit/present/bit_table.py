@@ -9,6 +9,7 @@ from balisekit.etcs.packets import packet_name
 from balisekit.etcs.raw_packets import Content, content_of
 from balisekit.etcs.variables import Form
 from balisekit.present.telegram_text import Shown, form_lines
+from balisekit.tables.names import ordinal
 
 
 def bit_lines(digits: str, form: Form) -> Iterator[str]:
@@ -26,7 +27,8 @@ def bit_lines(digits: str, form: Form) -> Iterator[str]:
     for field in fields:
         if field.packet is not None and field.packet != packet:
             packet = field.packet
-            yield f"  packet {packet}: {packet_name(field.number or 0, from_track)}"
+            number, whole = field.number or 0, "message" if is_message else "telegram"
+            yield f"  packet {number} ({packet_name(number, from_track)}), {ordinal(packet)} in the {whole}"
         yield f"    {_place(field.at, field.width):<17} {_words(field, known)}"
         content = contents[packet] if field.name == "body" and packet is not None else None
         yield from _content_lines(content, field, f"/packets/{packet}", known) if content else ()

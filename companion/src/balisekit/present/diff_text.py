@@ -90,6 +90,7 @@ def _lacks(found: Difference) -> str:
     sides = found.old.checked, found.new.checked
     refused = any(side.refused or side.refused_messages or side.left_out for side in sides)
     lacks = ["the content of what was refused is not compared"] if refused else []
+    lacks += ["names of aspects and messages are not compared"] if found.lacks_names else []
     return ", ".join([*lacks, *(text for side in sides for text in overlooked(side.table))])
 
 

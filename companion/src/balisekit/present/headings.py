@@ -48,6 +48,8 @@ def about(entry: Entry) -> str:
         parts += _aspects(entry)
         several = "s" if len(entry.balises) > 1 else ""
         parts += [f"balise{several} {', '.join(map(str, entry.balises))}"] if entry.balises else []
+    elif entry.rows:
+        parts.append(rows_words(entry.rows))
     directions = {entry.direction: None} if entry.direction else {}
     directions.update(dict.fromkeys(place.finding.direction for place in entry.findings if place.finding.direction))
     return "  ".join([*parts, *([" and ".join(map(str, directions))] if directions else [])])
@@ -73,7 +75,8 @@ def entry_lines(entry: Entry, with_folded: bool = False) -> List[str]:
 
     For entries that are folded below it there is a line with their number, and `with_folded` a line for each.
     """
-    below = [*(f"program: {line}" for line in entry.quoted), *added(entry), *folded_lines(entry, with_folded)]
+    quoted = () if entry.folded and entry.expected and not with_folded else entry.quoted
+    below = [*(f"program: {line}" for line in quoted), *added(entry), *folded_lines(entry, with_folded)]
     return [words(entry), *(f"    {line}" for line in below)]
 
 
@@ -84,7 +87,8 @@ def folded_lines(entry: Entry, each: bool = True) -> Iterator[str]:
     rules = [f"F{place.finding.rule}" for place in entry.findings]
     rules += [folded.rule for folded in entry.folded if folded.remark]
     counts = ", ".join(f"{rule} {count}" for rule, count in Counter(rules).items())
-    number = f"folded below it: {len(entry.folded)} entries ({counts}), gone if it is corrected"
+    gone = "" if entry.expected else ", gone if it is corrected"
+    number = f"folded below it: {len(entry.folded)} entries ({counts}){gone}"
     yield number if each else f"{number}{SHOW_FOLDED}"
     yield from (f"  {words(folded)}" for folded in entry.folded if each)
 

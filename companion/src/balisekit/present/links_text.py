@@ -149,6 +149,7 @@ def as_json(checked: Checked, links: Links) -> Dict[str, Any]:
             "refused_messages": len(checked.refused_messages),
             "not_looked_at": checked.not_looked_at,
             "not_read": table.account.overlooked,
+            "possible": table.account.possible,
             "not_known": table.account.unknown,
         },
         "rules": rules_json([links]),

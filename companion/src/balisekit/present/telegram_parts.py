@@ -9,6 +9,7 @@ from balisekit.drawing.svg import escaped
 from balisekit.etcs.places import Here
 from balisekit.etcs.variables import WORDS, Around, Form, in_order, value_texts
 from balisekit.present.telegram_text import LABEL_WIDTH, head_text, packet_text
+from balisekit.tables.names import short_ordinal
 
 LABELS = re.compile(f"^(.{{{LABEL_WIDTH - 1}}}) ", re.M)
 """The labels in front of a telegram's values, and the blanks after them."""
@@ -62,7 +63,9 @@ class Said:
         if not but or 3 * len(but) > 2 * len(words):
             return words
         label, _, values = words.partition("\t")
-        name, which = VALUES.split(values, maxsplit=1)[0], f"packet {first_place} of " * (place != first_place)
+        name, which = VALUES.split(values, maxsplit=1)[0], f"the {short_ordinal(first_place)} packet of " * (
+            place != first_place
+        )
         return f"{label}\t{name}: as {which or 'in '}{link(first)}{but}"
 
 

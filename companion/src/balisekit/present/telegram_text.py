@@ -14,6 +14,7 @@ from balisekit.etcs.holes import Holes, Kept, Pattern
 from balisekit.etcs.places import Here
 from balisekit.etcs.raw_packets import content_of, with_content
 from balisekit.etcs.variables import LABELS, WORDS, Around, Form, Values, in_order, value_texts
+from balisekit.tables.names import short_ordinal
 
 WIDTH = 118
 LABEL_WIDTH = 22
@@ -81,7 +82,7 @@ def _packet_lines(place: int, packet: Form, here: Here, from_track: bool) -> Tup
     notes = here.notes(place, packet) if from_track else {}
     notes.update({"/body": content.words} if content else {})
     lines = _Lines()
-    label, around = f"{LABELS['packets']} {place}", Around(from_track=from_track)
+    label, around = f"packet {packet['nid_packet']}, {short_ordinal(place)}", Around(from_track=from_track)
     lines.add(label, 1, with_content(packet, from_track), path, around)
     return lines.found, {f"{path}{own}": note for own, note in notes.items()}
 

@@ -9,6 +9,7 @@ from itertools import groupby
 from operator import attrgetter
 from typing import Dict, List, NamedTuple, Optional, Sequence, Set, Tuple
 
+from balisekit.etcs.geometry import NOMINAL
 from balisekit.rules.location import BaliseGroup, Identity, Location
 from balisekit.rules.passages import GroupData, Passage
 from balisekit.rules.telegrams import AUTHORITIES, LINKING, Link, Packet
@@ -89,6 +90,10 @@ def _add_profiles(profiles: Dict[Key, GivenProfile], passage: Passage, packets: 
         profiles[key] = GivenProfile(passage, packet, is_late)
 
 
+Directions = Dict[int, Tuple[BaliseGroup, Set[int]]]
+"""By the number of a group: the group, and each direction that links give it."""
+
+
 def chains_of(groups: Sequence[GroupData], messages: Sequence[Passage]) -> Chains:
     """Those of all groups and messages of a table."""
     chains = Chains()
@@ -100,11 +105,13 @@ def chains_of(groups: Sequence[GroupData], messages: Sequence[Passage]) -> Chain
 
 
 def take_directions(chains: Sequence[Chain]) -> None:
-    """Gives single balises whose direction the table does not show that of the links that name them.
+    """Gives groups whose direction the table does not show that of links, all of which have to agree.
 
-    Only links of groups count whose direction the table shows itself, and all of them have to agree.
+    A group of several balises has one kilometre then. Its direction leads to the groups that its own links name. A
+    single balise has that of the links that name it, of groups whose direction is known so far.
     """
-    directions: Dict[int, Tuple[BaliseGroup, Set[int]]] = {}
+    _take_own(chains)
+    directions: Directions = {}
     for chain in chains:
         sender = chain.sender
         along = sender.along(chain.direction) if sender else None
@@ -112,8 +119,29 @@ def take_directions(chains: Sequence[Chain]) -> None:
             continue
         for link in chain.links:
             group = link.target
-            if group and group.balises == 1 and group.rising is None and group.track == sender.track:
+            if group and group.rising is None and group.track == sender.track:
                 directions.setdefault(group.number, (group, set()))[1].add(along if link.nominal else -along)
+    _take(directions)
+
+
+def _take_own(chains: Sequence[Chain]) -> None:
+    """Gives groups of several balises the direction that leads to the groups that their own links name."""
+    directions: Directions = {}
+    for chain in chains:
+        sender, sign = chain.sender, 1 if chain.direction == NOMINAL else -1
+        if sender is None or sender.balises == 1 or sender.rising is not None or sender.place is None:
+            continue
+        for link in chain.links:
+            place = link.target.place if link.target and link.target.track == sender.track else None
+            if place is not None and place != sender.place:
+                rising = sign if place > sender.place else -sign
+                directions.setdefault(sender.number, (sender, set()))[1].add(rising)
+    _take(directions)
+    for group, _ in directions.values():
+        group.by_own_links = group.by_links
+
+
+def _take(directions: Directions) -> None:
     for group, found in directions.values():
         group.by_links, group.links_differ = len(found) == 1, len(found) > 1
         group.rising = found.pop() if group.by_links else None

@@ -19,10 +19,14 @@ MODULE = re.compile(r"[a-z]([1-9][0-9]*)_")
 
 
 def rules_of(package: str, folders: Iterable[str]) -> Tuple[Rule, ...]:
-    """The rules in the modules of a package, in the order of their numbers."""
+    """The rules in the modules of a package, in the order of their numbers. ImportError is raised if one is missing."""
     names = [module.name for module in iter_modules(folders)]
     numbers = {name: int(found[1]) for name, found in ((name, MODULE.match(name)) for name in names) if found}
-    return tuple(import_module(f"{package}.{name}").RULE for name in sorted(numbers, key=numbers.__getitem__))
+    rules = tuple(import_module(f"{package}.{name}").RULE for name in sorted(numbers, key=numbers.__getitem__))
+    for number, rule in enumerate(rules, 1):
+        if rule.name[1:] != str(number):
+            raise ImportError(f"the file of the rule {rule.name[0]}{number} is missing: install balisekit again")
+    return rules
 
 
 def letter_of(rule: str) -> str:

@@ -108,6 +108,35 @@ def _order(entry: Entry, tracks: Mapping[str, int]) -> Tuple[Any, ...]:
     return (entry.expected != "", entry.urgency, where, int(entry.rule[1:]))
 
 
+def with_stop_aspects(some: Sequence[Entry]) -> Sequence[Entry]:
+    """The same entries. Two or more expected ones of stop aspects are one entry: a line has one design for them."""
+    stops = [entry for entry in some if entry.expected == CORRECT["stop aspect"]]
+    if len(stops) < 2:
+        return some
+    aspects = {(entry.group.name, name) for entry in stops if entry.group for name in entry.aspects or ("",)}
+    groups = {name for name, _ in aspects}
+    made = stops[0]._replace(
+        sentence=f"{len(aspects)} stop aspects of {len(groups)} groups lack packet 21 (gradient profile), packet 27 "
+        "(international static speed profile) or both, with V_MAIN 0",
+        urgency=min(entry.urgency for entry in stops),
+        rows=tuple(sorted({row for entry in stops for row in entry.rows})),
+        group=None,
+        aspects=(),
+        balise=None,
+        packet=None,
+        direction="",
+        km=None,
+        values={"stop_aspects": str(len(aspects)), "groups": str(len(groups))},
+        findings=tuple(place for entry in stops for place in entry.findings),
+        balises=(),
+        other_rows=(),
+        folded=tuple(stops),
+    )
+    others = [entry for entry in some if entry.expected != CORRECT["stop aspect"]]
+    before = [entry for entry in others if not entry.expected]
+    return [*before, made, *others[len(before) :]]
+
+
 def entry_of(place: Place) -> Entry:
     """The entry of a finding by itself."""
     return _entry(Cause(place.finding.rule, (place,), place.statement))

@@ -19,13 +19,14 @@ from balisekit.rules.corrections import SUGGESTIONS
 from balisekit.rules.corrections.correction import Correction, Evidence
 from balisekit.rules.corrections.trying import LEAST, Again, Answer, explained
 from balisekit.rules.discovery import ADDED, first_to_last, letter_of
-from balisekit.rules.entries import Entry, entries, entry_of
+from balisekit.rules.entries import Entry, entries, entry_of, with_stop_aspects
 from balisekit.rules.line import Line
 from balisekit.rules.location import Identity
 from balisekit.rules.passed_over import Find, nothing
 from balisekit.rules.rule import Options, Remark, Result, Rule
 from balisekit.rules.statements.scene import BaliseName
 from balisekit.tables.account import Account
+from balisekit.tables.grouping import EVERY
 from balisekit.tables.model import Table
 
 PROVED, PLAN = "F", "X"
@@ -83,6 +84,8 @@ FAMILIES: Mapping[str, Family] = {
     ADDED: Family(ADDED, "added rules, not balisekit's, and not proved", "added rules"),
 }
 """In the order of an answer. `apply` is given the rules of the last one."""
+DOUBTING = ("E", "X")
+"""The families whose remarks may be about the aspect of a finding."""
 IF_ANY = frozenset({PLAN, ADDED})
 """The families that are not applied unless the user supplies the plan, or the rules."""
 
@@ -245,7 +248,7 @@ def apply(
     asked = [family for letter, family in known.items() if letter in letters]
     able = [family if has_kilometres else _without_kilometres(family) for family in asked]
     applied = [family for family in able if family.rules or family.letter == PROVED]
-    parts = list(_looked_at(checked, applied, options, began))
+    checked, parts = _without_doubtful(checked, list(_looked_at(checked, applied, options, began)))
     items = [item for part in parts for item in part.items]
     judged = judge(items, checked, *signed, partial(_is_in_full, applied, options)) if signed else None
     applied_rules = {rule.name for family in asked for rule in family.rules}
@@ -255,7 +258,41 @@ def apply(
     found = [_with_entries(checked, part, judged) for part in parts]
     if with_causes:
         found = _with_causes(checked, found, partial(_judged_again, checked, letters, options), options)
+        found = [part._replace(open=with_stop_aspects(part.open), accepted=part.accepted) for part in found]
     return Outcome(checked, found, judged, able != asked, off, options.replaced, outside)
+
+
+OF_ITS_ASPECT = frozenset({"stop aspect", "earlier group", "default aspect", "one controlled balise"})
+"""The rows of the table of findings on correct data that rest on what the aspect is."""
+
+
+def _without_doubtful(checked: Checked, parts: Sequence[Part]) -> Tuple[Checked, List[Part]]:
+    """The same. No finding is called correct data if a remark is about the aspect or the telegram that it rests on."""
+    remarks = [item for part in parts for item in part.items if isinstance(item, Remark)]
+    doubted = {row for remark in remarks if remark.rule[0] in DOUBTING for row in _own_rows(remark)}
+    if doubted.isdisjoint(row for place in checked.findings if place.correct for row in _rows_of_aspect(place)):
+        return checked, list(parts)
+    findings = tuple(
+        place._replace(correct="")
+        if place.correct in OF_ITS_ASPECT and not doubted.isdisjoint(_rows_of_aspect(place))
+        else place
+        for place in checked.findings
+    )
+    same = [part._replace(items=findings) if part.family.letter == PROVED else part for part in parts]
+    return replace(checked, findings=findings), same
+
+
+def _own_rows(remark: Remark) -> Sequence[int]:
+    """The rows that a remark is about."""
+    return [*remark.rows, *(where.row.number for where in remark.everywhere if where.row)]
+
+
+def _rows_of_aspect(place: Place) -> Iterator[int]:
+    """The rows that only the aspect of a finding has. A finding of the whole group is about all such rows."""
+    aspects = place.group.aspects if place.group else ()
+    number = place.finding.aspect
+    some = aspects if number is None else aspects[number : number + 1]
+    return (row.number for aspect in some for row in aspect.rows if row.aspect != EVERY)
 
 
 def _judged_again(checked: Checked, letters: Sequence[str], options: Options, table: Table) -> Answer:

@@ -55,6 +55,8 @@ def _group(finding: Finding, aspects: Aspects) -> str:
         return _profiles(finding, telegrams)
     if rule == 16 and (finding.aspect is not None or balise is None or not _is_default(balise, aspects.forms)):
         return "one controlled balise" if aspects.is_one_controlled else ""
+    if rule == 6 and len(aspects) > 1 and not _has_default(telegrams[balise or 0]):
+        return ""
     return default if rule in (6, 16) or rule == 14 and aspects.has_default else ""
 
 
@@ -72,5 +74,9 @@ def _profiles(finding: Finding, telegrams: Forms) -> str:
 
 def _is_default(balise: int, aspects: Sequence[Forms]) -> bool:
     """Whether the telegram of a balise is a default telegram in an aspect."""
-    own = [forms[balise] for forms in aspects]
-    return any(form["m_mcount"] == 254 or 254 in [packet["nid_packet"] for packet in form["packets"]] for form in own)
+    return any(_has_default(forms[balise]) for forms in aspects)
+
+
+def _has_default(form: Form) -> bool:
+    """Whether a telegram has a packet 254. M_MCOUNT 254 alone may be a mistake."""
+    return 254 in [packet["nid_packet"] for packet in form["packets"]]

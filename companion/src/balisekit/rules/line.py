@@ -27,6 +27,7 @@ from balisekit.tables.names import clean
 
 AFTER_INFILL = "after packet 136"
 BY_LINKS = "its direction along the kilometres is taken from the links that name it"
+BY_OWN_LINKS = "one kilometre for all balises, so the direction along the kilometres is taken from links"
 NOWHERE = -(10**12)
 """The place of a group whose place is not known, before all others."""
 Number = Union[int, Decimal]
@@ -152,7 +153,8 @@ class Line:
     @property
     def direction_notes(self) -> Mapping[str, str]:
         """A note for each single balise that has got its direction from links, by the name of its group."""
-        return {each.group.name: f"{each}: {BY_LINKS}" for each in self.groups if each.by_links}
+        words = {True: BY_LINKS, False: BY_OWN_LINKS}
+        return {each.group.name: f"{each}: {words[each.balises == 1]}" for each in self.groups if each.by_links}
 
     @property
     def chains(self) -> Sequence[Chain]:

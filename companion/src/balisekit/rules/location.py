@@ -39,7 +39,9 @@ class BaliseGroup:
     unread: Tuple[int, ...] = ()
     """The rows whose telegrams the program has not read."""
     by_links: bool = False
-    """Whether `rising` is taken from the links that name it, a single balise."""
+    """Whether `rising` is taken from links: those that name it, or its own ones if it has several balises."""
+    by_own_links: bool = False
+    """Whether it is taken from its own ones."""
     links_differ: bool = False
     """Whether these links disagree about it."""
     says: Tuple[bool, ...] = (True, True)

@@ -14,6 +14,8 @@ from balisekit.tables.unread_digits import (
     LEAST_RUN,
     could_hold_telegram,
     groups_of,
+    has_few_digits,
+    has_run_or_large_number,
     is_telegram,
     possible_digits,
     size,
@@ -106,8 +108,12 @@ def _hits(cells: Sequence[str]) -> Dict[str, int]:
     longest = max(map(len, cells), default=0)
     if longest < LEAST_LARGE or longest < LEAST_RUN and "E" not in "".join(cells).upper():
         return {}
-    texts = {cell for cell in {*cells} if len(cell) >= LEAST_LARGE}
-    counts = {cell: 0 if is_telegram(cell) else possible_digits(cell) or None for cell in texts}
+    texts = {*cells}
+    if not has_run_or_large_number("\n".join(texts).encode("utf-8", "replace")):
+        texts = {cell for cell in texts if len(cell) >= LEAST_SPREAD or not cell.isascii()}
+    counts = {
+        cell: 0 if is_telegram(cell) else possible_digits(cell) or None for cell in texts if not has_few_digits(cell)
+    }
     return {cell: count for cell, count in counts.items() if count is not None}
 
 

@@ -2,6 +2,7 @@
 from __future__ import annotations
 
 import re
+from collections import Counter
 from dataclasses import dataclass, replace
 from typing import Callable, Iterator, List, Mapping, Optional, Sequence, Set, Tuple
 
@@ -26,6 +27,7 @@ VARIABLE = re.compile(r"[A-Z]+(?:_[A-Z0-9]+)+(?: \([0-9]+\)| of [A-Z_]+)?|user b
 SEPARATORS = re.compile("[,;\t]")
 THOUSANDS = re.compile("([-+\u2212]?[1-9][0-9]{0,2})[.,]([0-9]{3})(?![0-9.,])")
 """A number whose comma or point may separate thousands or decimals. A kilometre always has decimals."""
+WHOLE, DIGITS = re.compile("[-+\u2212]?[0-9]+"), re.compile("[0-9]{1,6}")
 CHAINAGE = re.compile("[-+\u2212]?[0-9][0-9.,]*\\+[0-9]{3}")
 """A kilometre as a chainage writes it, which is no number in another column."""
 Cells = Mapping[str, str]
@@ -78,9 +80,13 @@ class Expected:
         row: List[str] = []
         used: Set[int] = set()
         others = set(range(self.width)).difference(self.places.values())
+        commas = _Commas({at: name for name, at in self.places.items() if at + 1 in others and name in ONE_OF[1]})
         for number, row in self._filled():
             faults += self._faults(number, row)
             used.update(at for at in others.difference(used) if any(map(str.strip, row[at : at + 1])))
+            if self.separator == ",":
+                commas.add(number, row)
+        faults += commas.faults()
         if faults:
             raise TableErrors(faults)
         if not row:
@@ -100,6 +106,30 @@ class Expected:
                 yield TableError(why, number, name)
         if not self._has_value(row):
             yield TableError(NO_VALUE, number)
+
+
+class _Commas:
+    """Values that may be decimal fractions whose commas are not quoted, in columns before one that is not read."""
+
+    def __init__(self, names: Mapping[int, str]) -> None:
+        self.names, self.filled = names, Counter[int]()
+        self.in_two: List[Tuple[int, int, str, str]] = []
+
+    def add(self, number: int, row: List[str]) -> None:
+        """Takes a row into account."""
+        for at in self.names:
+            value, behind = [*map(str.strip, row[at : at + 2]), "", ""][:2]
+            self.filled[at] += bool(value)
+            if WHOLE.fullmatch(value) and DIGITS.fullmatch(behind):
+                self.in_two.append((number, at, value, behind))
+
+    def faults(self) -> Iterator[TableError]:
+        """A fault for each value with digits in the next cell, unless all values have some: then they are numbers."""
+        counts = Counter(at for _, at, _, _ in self.in_two)
+        for number, at, value, behind in self.in_two:
+            if counts[at] < self.filled[at]:
+                why = f"{value}, and the next cell has {behind}: is this a decimal comma that is not quoted?"
+                yield TableError(f"{why} If it is not, write {value}.0", number, self.names[at])
 
 
 def read(path: str, columns: Optional[str] = None) -> Expected:

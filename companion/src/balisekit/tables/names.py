@@ -17,8 +17,11 @@ BLANK = re.compile("[\u034f\u115f\u1160\u17b4\u17b5\u180b-\u180f\u2800\u3164\ufe
 
 def ordinal(place: int) -> str:
     """Which one it is, by its place counted from 0: "first", "eleventh" as "11th"."""
-    if place < len(ORDINALS):
-        return ORDINALS[place]
+    return ORDINALS[place] if place < len(ORDINALS) else short_ordinal(place)
+
+
+def short_ordinal(place: int) -> str:
+    """The same in digits: "1st", "11th"."""
     ending = "th" if (place + 1) // 10 % 10 == 1 else {1: "st", 2: "nd", 3: "rd"}.get((place + 1) % 10, "th")
     return f"{place + 1}{ending}"
 

@@ -7,12 +7,12 @@ from typing import Iterator, Sequence, Tuple
 
 from balisekit.rules.applied import Applied, look_for
 from balisekit.rules.discovery import rules_of
-from balisekit.rules.line import BY_LINKS, Line
+from balisekit.rules.line import BY_LINKS, BY_OWN_LINKS, Line
 from balisekit.rules.links.l2_distance import RULE as L2
 from balisekit.rules.location import IN_JUMP, BaliseGroup
 from balisekit.rules.passed_over import PassedOver
 from balisekit.rules.rule import Options, Rule
-from balisekit.tables.names import clean, describe_group
+from balisekit.tables.names import clean, describe_group, listed
 
 RULES = rules_of(__name__, __path__)
 __all__ = ["L2", "RULES", "Links", "compare", "notes_on", "passed_over"]
@@ -56,13 +56,16 @@ def passed_over(line: Line) -> Iterator[PassedOver]:
 
 def _all(line: Line) -> Iterator[Note]:
     for group in line.groups:
-        why = _lacks(line, group) or (BY_LINKS if group.by_links else "")
+        why = _lacks(line, group) or (BY_LINKS if group.by_links and group.balises == 1 else "")
         if why:
             yield describe_group(group.group), why
         first = line.decoded.by_identity.get(group.identity) if group.identity else None
         if first is not None and first.group is not group:
             why = f"links to its identity count for {clean(first.group.group.name)}, which has it too"
             yield describe_group(group.group), why
+    several = [clean(group.group.name) for group in line.groups if group.by_links and group.balises > 1]
+    if several:
+        yield listed(several, SHOWN), BY_OWN_LINKS
     yield from ((str(chain.location), INFILL) for chain in line.decoded.chains.infill)
     for chain in line.chains:
         if chain.sender is None:

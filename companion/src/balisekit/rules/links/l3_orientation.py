@@ -3,7 +3,8 @@
 What it says. Q_LINKORIENTATION of a linked group does not fit the order of its balises along the track. The variable
 states whether a train that runs towards the group passes its balises in rising order (nominal, 1) or in falling order
 (reverse, 0). The rule compares only groups of two or more balises. A single balise has no order, and gets its direction
-by this very variable. The rule rests on SUBSET-026, 3.4.2 and 3.4.4.
+by this very variable. If all balises of a group have one kilometre, the groups to which its own links lead show the
+direction instead. The rule rests on SUBSET-026, 3.4.2 and 3.4.4.
 
 Why it matters. At worst the train brakes or is tripped at each passage. The order of the balises shows the train
 another direction than the link announced. It then applies the linking reaction, or rejects the message of the group.
@@ -49,7 +50,7 @@ def _look_at(line: Line, chain: Chain) -> Iterator[Union[Remark, str, None]]:
         here = link.target
         if sender is None or here is None:
             yield NOT_IN_TABLE
-        elif here.balises == 1:
+        elif here.balises == 1 or here.by_links and not here.by_own_links:
             yield ""
         elif here.rising is None or along is None:
             yield NO_DIRECTION
@@ -59,9 +60,10 @@ def _look_at(line: Line, chain: Chain) -> Iterator[Union[Remark, str, None]]:
             yield None
         else:
             announced, wanted = (NOMINAL, REVERSE) if link.nominal else (REVERSE, NOMINAL)
+            by = "links of its own" if here.by_own_links else "order of its balises along the track"
             sentence = (
                 f"Q_LINKORIENTATION says that {here} is passed in {announced} direction, "
-                f"and by the order of its balises along the track it is passed in {wanted} direction"
+                f"and by the {by} it is passed in {wanted} direction"
             )
             facts = (f"link {link.number} to {group_words(here)} {announced}",)
             yield Remark("L3", chain.at(link), sentence + line.wrong_order(here, sender), here, facts=facts)

@@ -3,6 +3,8 @@
 What it says. Two aspects of a group that lead to one place state different V_STATIC, or gradients more than 5 ‰ apart,
 for the same stretch of the track. The rule rests on SUBSET-026, 3.11.
 - The stretch must be longer than `--tolerance` (default 1 m) and rounding. Stretches that touch count as one.
+- If both profiles have the same Q_SCALE, and the same values in the same order up to there, both are rounded alike.
+  Then only a `--tolerance` that is stated counts.
 - A rise and a fall are different gradients.
 - The two aspects are compared as far as the packets 5 of both name the same groups, also beyond an end of authority.
   Without packets 5 they are compared if both authorities end at the same place.
@@ -34,11 +36,11 @@ from itertools import chain, product
 from typing import Dict, Iterable, Iterator, List, Mapping, NamedTuple, Sequence, Tuple
 
 from balisekit.etcs.variables import metres
-from balisekit.rules.decoded import Decoded
+from balisekit.rules.decoded import Decoded, tolerance_of_lengths
 from balisekit.rules.line import Line
 from balisekit.rules.meaning.along import leaves
 from balisekit.rules.meaning.sent import are_contrary, by_culprit, contrary, distance, field_at, speed, tolerance
-from balisekit.rules.meaning.siblings import common_reach, with_common_reach
+from balisekit.rules.meaning.siblings import are_rounded_alike, common_reach, with_common_reach
 from balisekit.rules.meaning.words import between, more_stretches
 from balisekit.rules.passages import Passage
 from balisekit.rules.rule import Options, Remark, Result, Rule, Urgency
@@ -103,13 +105,14 @@ def _compared(
     line: Line, options: Options, one: Passage, pairs: Iterable[Tuple[Packet, Packet]], reach: int
 ) -> List[Contrary]:
     """The stretches before a point of the track plan of which both packets of a pair say different things."""
-    found = []
+    found, stated = [], tolerance_of_lengths(options.tolerance)
     for packets in pairs:
         if packets[0] is packets[1]:
             continue  # of a fixed balise
         differing = list(contrary(packets[0].stretches, packets[1].stretches, reach, APART[packets[0].number]))
         least = tolerance(options, *((each, len(each.stretches)) for each in packets)) if differing else 0
-        for begin, end, *values in chain(*longer(differing, lambda each: each[:2], lambda _: least)):
+        allowed = {end: stated if are_rounded_alike(*packets, end) else least for _, end, *_ in differing}
+        for begin, end, *values in chain(*longer(differing, lambda each: each[:2], lambda each: allowed[each[1]])):
             place = one.place(begin + least)
             if place is None or not leaves(options, line.decoded, one, place):
                 found.append(Contrary(packets, begin, end, (values[0], values[1])))

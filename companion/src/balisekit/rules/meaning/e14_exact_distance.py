@@ -4,9 +4,9 @@ What it says. A distance by D_LINK differs from the distance by the kilometres, 
 also allows Q_LOCACC, which describes how exactly a group is installed, not how exactly D_LINK is written. The rule
 rests on SUBSET-026, 3.4.4 and 7.5.1.
 - The distance counts from the sending group, or from the linked group before.
-- The two distances may differ by `--tolerance` (default 1 m) and rounding. Rounding is one unit of Q_SCALE, and one
-  unit of the last decimal of the kilometres (at most 1 m). If several D_LINK are added up, half a unit of Q_SCALE is
-  allowed for each further one.
+- The two distances may differ by rounding, and by `--tolerance` if it is stated. Rounding is one unit of Q_SCALE, and
+  one unit of the last decimal of the kilometres (at most 1 m). If several D_LINK are added up, half a unit of Q_SCALE
+  is allowed for each further one.
 - If the links of two or more groups lead over one stretch and all differ by the same amount, one remark asks whether
   the kilometres jump there.
 - If many links of a track differ, the kilometres might follow another axis than the track. One note then counts these
@@ -55,7 +55,7 @@ def find(line: Line, options: Options) -> Result:
     """Looks at each link between two groups of one track."""
     skipped = Counter(line.infill_links)
     steps = list(steps_of(line, skipped))
-    least = line.decoded.tolerance(options.tolerance_of_places)
+    least = line.decoded.tolerance(options.tolerance)
     differing = [each for each in steps if abs(each.difference) > least + rounding(each.link.unit, each.lengths)]
     wrong = set(map(id, differing))
     jumps = [each for each in jumps_of(steps, least + 1) if any(id(step) in wrong for step in each.steps)]

@@ -11,7 +11,9 @@ that they have, or one of its values is another one. The rule rests on SUBSET-02
   value of this one. If no other signal has the D_OL or D_DP beside the value, the value is not compared. Neither is a
   D_STARTOL that is equal to L_ENDSECTION.
 - V_MAIN is compared if at all other signals it is the greatest V_STATIC of the aspect, or else the same speed. A
-  V_MAIN that is too low is only reported if the signal has another proceed aspect whose V_MAIN is as usual.
+  V_MAIN that is too low is only reported if the signal has another proceed aspect whose V_MAIN is as usual. One that
+  differs from V_STATIC only, and that another aspect of the signal has too, is not reported. Neither is one that E2
+  reports.
 - Q_SRSTOP of packet 137 and Q_ASPECT of packet 132 are also compared if fewer signals have them. "Go" beside a V_MAIN
   of 0 is reported if only this signal has it. The same holds for "stop" in a packet 137 beside a V_MAIN above 0. At
   least one other signal must have the other value at its aspect of the same name.
@@ -76,7 +78,8 @@ def find(line: Line, options: Options) -> Result:
     known = {name: own for name, own in cases.items() if signals_of(own) >= LEAST}
     rare = sum(len(own) for name, own in cases.items() if name not in known)
     parts: Dict[Tuple[str, Tuple[int, str]], List[Part]] = {}
-    for part in (*_lacking(known), *map(_of_value, (*odd_values(cases), *contrary_orders(cases), *odd_speeds(known)))):
+    speeds = (each for each in odd_speeds(known) if each.sent * 5 <= options.greatest_speed)
+    for part in (*_lacking(known), *map(_of_value, (*odd_values(cases), *contrary_orders(cases), *speeds))):
         parts.setdefault((part.case.aspect, part.case.signal), []).append(part)
     found = [_remark(own, known.get(own[0].case.aspect, ())) for own in parts.values()]
     looked_at = sum(len(own) for own in known.values())

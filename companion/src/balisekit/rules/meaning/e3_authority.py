@@ -8,6 +8,7 @@ The rule rests on SUBSET-026, 3.8 and 7.4.2, and reports these cases:
 - D_OL is below D_DP, so the overlap ends before the danger point.
 - V_MAIN is above 0, although the sum of all lengths is 0.
 - V_LOA is greater than V_MAIN.
+- T_SECTIONTIMER, T_ENDTIMER or T_OL is 0 s, or T_LOA is 0 s and V_LOA is above 0.
 - V_LOA is 0, and T_LOA is not 1,023 (no time limit).
 - V_LOA is above 0 with T_LOA 1,023, and there is a danger point or an overlap.
 
@@ -20,7 +21,8 @@ the danger point has D_DP 250 m. After: the overlap ends at the danger point or 
 
 When it is a false alarm. The rule assumes that trains use each value. A template might fill in a section of 0 m, a
 T_LOA, a danger point or an overlap that no train uses. The rule assumes that timers start and stop within their
-lengths. A timer might stop later on purpose, or start in rear of the group. It assumes that V_LOA restricts the train.
+lengths. A timer might stop later on purpose, or start in rear of the group. It assumes that a timer of 0 s is not meant
+to end a section at once. It assumes that V_LOA restricts the train.
 A project might send a V_LOA above V_MAIN on purpose, so that it does not. The rule also assumes that a V_MAIN above 0
 needs a length. A V_MAIN above 0 without any length can be right at a signal at danger, often after a packet 136.
 
@@ -36,7 +38,7 @@ How sure. 88 %, by practice and memory of the standard.
 from __future__ import annotations
 
 from decimal import Decimal
-from typing import Iterator, List
+from typing import Any, Iterator, List
 
 from balisekit.etcs.variables import Form, metres
 from balisekit.rules.line import Line
@@ -56,7 +58,8 @@ def find(line: Line, options: Options) -> Result:
 
 def _faults(packet: Packet) -> List[Fault]:
     form, unit, total = packet.form, packet.unit, packet.end
-    return [*_sections(form, unit), *_starts(form, unit, total), *_overlap(form, unit), *_limit(form, total)]
+    timers = _timers(form)
+    return [*_sections(form, unit), *_starts(form, unit, total), *timers, *_overlap(form, unit), *_limit(form, total)]
 
 
 def _sections(form: Form, unit: int) -> Iterator[Fault]:
@@ -88,6 +91,17 @@ def _starts(form: Form, unit: int, total: int) -> Iterator[Fault]:
         if start > total > 0:
             words = f"{name} {metres(start)} is greater than the sum of all lengths, {metres(total)}"
             yield Fault(words, {f"{name.lower()}_m": distance(start), "lengths_m": distance(total)})
+
+
+def _timers(form: Form) -> Iterator[Fault]:
+    """Timers that run out as soon as they start."""
+    sections: List[Any] = [form, *form["sections"]]
+    timers = [("section_timer", "t_sectiontimer", each) for each in sections]
+    for part, key, parent in (*timers, ("end_timer", "t_endtimer", form), ("overlap", "t_ol", form)):
+        if part in parent and parent[part][key] == 0:
+            yield Fault(f"{key.upper()} is 0 s", {f"{key}_s": Decimal()}, [(key, None)])
+    if form["end_timeout"] == 0 and form["end_speed"]:
+        yield Fault(f"T_LOA is 0 s, and V_LOA is {speed(form['end_speed'])}", {"t_loa_s": Decimal()})
 
 
 def _overlap(form: Form, unit: int) -> Iterator[Fault]:

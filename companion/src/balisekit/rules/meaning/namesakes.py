@@ -221,18 +221,23 @@ def _has_its_own_place(value: Value, cases: Cases) -> bool:
 
 
 def odd_speeds(cases: Cases) -> Sequence[Odd]:
-    """The V_MAIN that differ from what is usual at their aspect, those that restrict a whole signal left out."""
+    """The V_MAIN that differ from what is usual at their aspect.
+
+    Those that restrict a whole signal are left out. So are those that only differ from their speed profile, and that
+    another aspect of the signal has too: then it is the profile that differs.
+    """
     moving = {name: [case for case in own if case.speed] for name, own in cases.items()}
     odd = [each for own in moving.values() for each in _odd_speeds(own)]
-    proceeding: Dict[Tuple[int, str], int] = {}
+    speeds: Dict[Tuple[int, str], List[int]] = {}
     for own in moving.values():
         for case in own:
-            proceeding[case.signal] = proceeding.get(case.signal, 0) + 1
+            speeds.setdefault(case.signal, []).append(case.speed)
     signals = [each.case.signal for each in odd]
     return [
         each
         for each in odd
-        if each.sent > each.usual or signals.count(each.case.signal) == 1 < proceeding[each.case.signal]
+        if (each.usual != each.case.of_profile or speeds[each.case.signal].count(each.sent) == 1)
+        and (each.sent > each.usual or signals.count(each.case.signal) == 1 < len(speeds[each.case.signal]))
     ]
 
 

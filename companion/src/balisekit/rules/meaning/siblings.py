@@ -121,6 +121,12 @@ def common_reach(line: Line, options: Options, one: Linked, other: Linked) -> in
     return min(first, second) if is_same else 0
 
 
+def are_rounded_alike(one: Packet, other: Packet, end: int) -> bool:
+    """Whether two profiles have one unit, and up to a distance the same values in the same order."""
+    own, its = ([each.value for each in packet.stretches if each.begin <= end] for packet in (one, other))
+    return one.unit == other.unit and own == its
+
+
 # ---- authorities of aspects over a table, by the names of the aspects: for E9
 
 

@@ -1,0 +1,3 @@
+pub mod MachineLemmas
+pub mod RunLemmas
+pub mod QuoteLemmas
