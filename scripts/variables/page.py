@@ -83,7 +83,7 @@ def raw_rows():
 
 
 def compared_raw(notes):
-    """The rows of raw-layouts.csv: a layout with its fields and how sure it is, or a variable. Each keeps its note in `notes`."""
+    """The rows of raw-layouts.csv, for each layout and each variable, with those of these notes that still hold."""
     rows = [Row(layouts=f"{'train ' * (it['from'] == 'train')}packet {it['packet']}", about=json.dumps(it["fields"]),
                 meaning=packet_name(it["packet"], it["from"] == "track"), section="7.4",
                 doubt=": ".join(filter(None, [f"{it['sure']} % sure", it.get("doubt")]))) for it in RAW["layouts"]]

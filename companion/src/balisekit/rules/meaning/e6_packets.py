@@ -8,8 +8,8 @@ two authorities at once. The rule rests on SUBSET-026, 7.4, 8.4.4 and 8.7. A pac
   packet 136 are counted separately.
 - With `--rules E6` the rule also reports two different packets of one kind in one direction. The kinds are 2, 3, 12,
   16, 21, 27, 41, 45, 46, 80, 131, 132, 136, 137, 141 and 254.
-- With `--rules E6` it also reports a packet 64 in a balise. In a message 3 it then reports a packet 0, 6, 13, 16, 46, 90,
-  132 to 137, 145 or 254.
+- With `--rules E6` it also reports a packet 64 in a balise. In a message 3 it then reports a packet 0, 6, 13, 16, 46,
+  90, 132 to 137, 145 or 254.
 
 Why it matters. At worst the train gets wrong information. It might use either of two packets, or reject the message. It
 does not use a packet that only radio sends, and it looks for a packet 0 only at the beginning of a telegram.
