@@ -1,6 +1,6 @@
 """Lines with one mistake each for the rules from E12 on, as teams make them: `examples/meaning/mistakes`.
 
-`python3 companion/tests/meaning_mistakes.py` writes each table, and beside it what `check TABLE --only E --rules all`
+`python3 companion/tests/meaning_mistakes.py` writes each table, and beside it what `check TABLE --only E --rules all --folded`
 writes after its first lines.
 """
 from __future__ import annotations

@@ -1,7 +1,7 @@
 """Lines with one mistake each for the rules E1 to E11, as teams make them: `examples/meaning/mistakes`.
 
 `python3 companion/tests/meaning_mistakes_of_groups.py` writes each table, and beside it what
-`check TABLE --only E --rules all` writes after its first line.
+`check TABLE --only E --rules all --folded` writes after its first line.
 """
 from __future__ import annotations
 
@@ -154,7 +154,7 @@ def answer(name: str) -> str:
     """
     out = io.StringIO()
     with contextlib.redirect_stdout(out):
-        cli.main(["check", str(MISTAKES_FOLDER / f"{name}.csv"), "--only", "E", "--rules", "all"])
+        cli.main(["check", str(MISTAKES_FOLDER / f"{name}.csv"), "--only", "E", "--rules", "all", "--folded"])
     lines = out.getvalue().splitlines(keepends=True)[3:]
     return "".join(line for line in lines if not line.startswith("applied: "))
 

@@ -278,11 +278,12 @@ def test_proposed_entries_are_about_their_findings(run: Run, tmp_path: Path) -> 
     assert run("check", LINE, "--propose", file)[0] == 2
     rows = list(csv.reader(io.StringIO(file.read_text("utf-8"))))
     assert [(row[0], row[8].split(":")[0]) for row in rows[1:]] == [
-        ("F10", "Stop aspect of level 1 without profiles"),
-        ("F12", "Stop aspect of level 1 without profiles"),
+        ("F10", ""),
+        ("F12", ""),
         ("F9", "Infill, packet 136"),
         ("F9", "Infill, packet 136"),
         ("F11", ""),
+        ("E24", ""),
         ("E15", ""),
     ]
     signed = [[*row[:9], "J. Doe", "2026-05-28", *row[11:]] for row in rows[1:]]

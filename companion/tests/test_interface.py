@@ -91,7 +91,7 @@ def test_the_script_of_the_examples(folder: Path) -> None:
     assert said[0] == "status 2" and said[1].startswith("F11 18.253 green {'reach_m': '3250', ")
     assert said[2:] == [
         *(f"ACME-7 18.253 {aspect} {{'d_ol_m': '200'}}" for aspect in ("red", "yellow", "green")),
-        "{'F11': 1, 'E15': 1, 'ACME-7': 24, 'F10': 1, 'F9': 1}",
+        "{'F10': 1, 'F11': 1, 'E15': 1, 'ACME-7': 24, 'F9': 1}",
     ]
 
 
@@ -102,13 +102,13 @@ def test_a_line(program: Program) -> None:
     first = results[0]
     assert first.status == 2 and first.last_line.startswith("INCOMPLETE: 1 of 34 telegrams refused")
     assert all(each.findings == first.findings and each.lines == first.lines for each in results)
-    assert [finding.rule for finding in first.findings] == ["F11", "E15", "F10", "F9"]
-    assert first.of("E", "F9") == tuple(first.findings[index] for index in (1, 3)) and first.open == first.findings
-    found = first.findings[0]
+    assert [finding.rule for finding in first.findings] == ["F10", "F11", "E15", "F9"]
+    assert first.of("E", "F9") == tuple(first.findings[index] for index in (2, 3)) and first.open == first.findings
+    found = first.findings[1]
     assert (found.family, found.rows, found.group, found.aspect) == ("F", (23,), "Signal E", "green")
     assert (found.direction, found.km, found.urgency) == ("nominal", Decimal("18.253"), "wrong_information")
     assert found.program == ("F11 group 5 aspect 2 balise 1 packet 1 nominal: gradient short",)
-    assert first.findings[2].expected == "stop aspect: expected" and not found.expected
+    assert first.findings[3].expected == "infill: expected" and not found.expected
 
 
 def test_the_answer_is_that_of_the_command(run: Run, tmp_path: Path, program: Program) -> None:
@@ -150,7 +150,7 @@ def test_records_have_plain_values(program: Program) -> None:
     assert all(set(record) == set(balisekit.Finding._fields) for record in records)
     plain = (str, int, float, bool, type(None))
     assert all(isinstance(value, plain) for record in records for value in record.values())
-    assert records[0]["rows"] == "23" and records[0]["km"] == 18.253 and json.dumps(records)
+    assert records[1]["rows"] == "23" and records[1]["km"] == 18.253 and json.dumps(records)
 
 
 def test_a_rule_of_a_script(program: Program) -> None:

@@ -96,6 +96,7 @@ def test_the_page_has_all_that_was_said(
     text = "".join(seen.texts)
     for line in said[1:]:
         told = line.strip().replace("program: ", "").replace("left out: ", "").replace("settings: ", "")
+        told = told.replace("; --folded lists them", "")
         told = re.sub(
             "^(findings that|(findings of|links, by|remarks on).*proved).*:.*", lambda found: _title(found[0]), told
         )
@@ -254,7 +255,7 @@ def test_accepted_findings_stand_apart(tmp_path: Path, capsys: pytest.CaptureFix
 def test_a_report_with_entries_that_is_not_whole(tmp_path: Path, capsys: pytest.CaptureFixture[str]) -> None:
     """What was left out is the last word, and none of it is a yes. A file of entries that cannot be read is refused."""
     status, page = _report(LINE, tmp_path / "r.html", "--accepted", str(_accepted(tmp_path / "none.csv")))
-    assert status == 2 and "findings 5, remarks 1: accepted 0, open 6\nINCOMPLETE: " in page
+    assert status == 2 and "findings 5, remarks 2: accepted 0, open 7\nINCOMPLETE: " in page
     assert "no open findings" not in page
     assert ACCEPTED not in page
     (tmp_path / "bad.csv").write_text("rule\n")
