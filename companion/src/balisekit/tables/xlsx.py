@@ -16,15 +16,7 @@ from xml.etree.ElementTree import Element, ParseError, fromstring, iterparse
 
 from balisekit.errors import KitError, TableError, needed
 from balisekit.tables import strings
-from balisekit.tables.cells import (
-    GREATEST_NAME,
-    Area,
-    Found,
-    Place,
-    Sheet,
-    fill_heads,
-    of_kind,
-)
+from balisekit.tables.cells import GREATEST_NAME, Area, Found, Place, Sheet, fill_heads, of_kind
 from balisekit.tables.encoding import OLD_WORKBOOK
 from balisekit.tables.headings import SEARCHED, Headings, is_data
 from balisekit.tables.other_parts import Beside, beside_cells
