@@ -135,10 +135,10 @@ def test_no_kilometres(run: Run, table: Write) -> None:
 def test_a_rule_that_looks_at_nothing_is_no_success(run: Run, table: Write, program: Program, tmp_path: Path) -> None:
     """Without a direction along the kilometres L3 compares no link, beside a yes, and beside a refused telegram."""
     rows = csv.DictReader((FOLDER / "line.csv").read_text("utf-8").splitlines())
-    lines = [f"{row['group']},{row['km'].split('.')[0]},{row['telegram']}" for row in rows if row["group"] in "AB"]
+    lines = [f"{row['group']},10,{row['telegram']}" for row in rows if row["group"] in "AB"]
     status, out, _ = run("check", table("group,km,telegram", *lines))
     assert status == 2 and out[-1].startswith("INCOMPLETE: L3 compared none of ")
-    assert '; program: "yes: groups 2, messages 0"; remarks: ' in out[-1]
+    assert '; program: "yes: groups 2, messages 0"; ' in out[-1]
     status, out, _ = run("check", table("group,km,telegram", *lines, f"X,20,{SPARE}"))
     said = "INCOMPLETE: 1 of 5 telegrams refused, 1 of 3 groups left out; L3 compared none of "
     assert status == 2 and out[-1].startswith(said)

@@ -348,8 +348,8 @@ def test_an_entry_leads_to_its_places(run: Run, line: Path) -> None:
     assert links == [("pg5", "picture"), ("r23", "row 23"), ("r23p1", "packet"), ("F11", "F11")]
     tag, packet = page.of("r23p1")
     packet = packet.expandtabs(22)
-    assert tag == "mark" and packet.lstrip().startswith("packet 1  ") and "gradient profile [21]" in packet
-    assert "packet 2" not in packet and page.of("r23")[0] == "details" and page.of("F11")[0] == "details"
+    assert tag == "mark" and packet.lstrip().startswith("packet 21, 2nd  ") and "gradient profile [21]" in packet
+    assert "packet 27" not in packet and page.of("r23")[0] == "details" and page.of("F11")[0] == "details"
     assert page.of("pg5")[0] == "figure"
     marked = [str(attributes["id"]) for _, attributes, _ in page.all("mark")]
     assert sorted(marked) == ["r14p0", "r15p0", "r15p1", "r23p1"]

@@ -355,7 +355,7 @@ def _standing_for(checked: Checked, correction: Correction, entries: Sequence[En
     if correction.is_only_place:
         same = (each for each in entries if letter_of(each.rule) == letter_of(first.rule))
         first = next((each for each in same if not set(correction.rows).isdisjoint(each.rows)), first)
-        words = f"{first.sentence}; without {correction.sentence} all {len(entries)} entries are gone"
+        words = f"{first.sentence}; without {correction.sentence} these {len(entries)} entries are gone"
         rows = first.rows if not set(correction.rows).isdisjoint(first.rows) else correction.rows
         made = first._replace(sentence=words, rows=rows)
     return made._replace(
