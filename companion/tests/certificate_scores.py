@@ -85,8 +85,18 @@ def changes(program: Program, folder: Path, name: str) -> Tuple[Baseline, List[T
     original = Original(outcome.checked)
     of_fields = [mistake for mistake in catalogue() if mistake.folder == "fields"]
     others = [mistake for mistake in catalogue() if mistake.folder != "fields"]
-    made = trials(original, 1, SEED, of_fields)[::OF_FIELDS] + trials(original, PER_KIND, SEED, others)
+    made = [*_some(trials(original, 1, SEED, of_fields)), *trials(original, PER_KIND, SEED, others)]
     return Baseline(outcome, Judge(letters, Options())), made
+
+
+def _some(of_fields: Sequence[Trial]) -> Iterator[Trial]:
+    """One in three changes of each kind. Kinds begin at different ones, so that each variable has some."""
+    counts: "Counter[str]" = Counter()
+    for trial in of_fields:
+        kind = trial.mistake.name
+        if (counts[kind] + len(kind)) % OF_FIELDS == 0:
+            yield trial
+        counts[kind] += 1
 
 
 def scores(name: str, made: Sequence[Tuple[Trial, Judgement]]) -> Scores:
@@ -240,9 +250,14 @@ def _output(command: str) -> str:
 
 
 def lower(before: Scores, now: Scores) -> List[str]:
-    """The kinds that are found less often than before."""
-    pairs = ((key, before.get(key, "").count("F"), answers.count("F")) for key, answers in now.items() if key.kind)
-    return [f"{key.line}: {key.kind}: {old} found before, {new} now" for key, old, new in pairs if new < old]
+    """The kinds that are found less often than before: by number, or by share if the changes are others."""
+    pairs = [(key, before.get(key, ""), answers) for key, answers in now.items() if key.kind]
+    less = [
+        (key, old, new)
+        for key, old, new in pairs
+        if (new.count("F") < old.count("F") if len(new) == len(old) else share(new) < share(old))
+    ]
+    return [f"{key.line}: {key.kind}: {share(old)} % found before, {share(new)} % now" for key, old, new in less]
 
 
 def main() -> int:

@@ -200,8 +200,10 @@ def test_made_lines(program: Program, tmp_path: Path, name: str) -> None:
 def test_less_is_found() -> None:
     """A kind of which less is found than before is named."""
     key = certificate_scores.Key("a line", "a tenth")
-    assert certificate_scores.lower({key: "FFN"}, {key: "FNN"}) == ["a line: a tenth: 2 found before, 1 now"]
+    assert certificate_scores.lower({key: "FFNN"}, {key: "FNNN"}) == ["a line: a tenth: 50 % found before, 25 % now"]
+    assert certificate_scores.lower({key: "FF"}, {key: "FFFN"}) == ["a line: a tenth: 100 % found before, 75 % now"]
     assert not certificate_scores.lower({key: "FFN"}, {key: "FFF"})
+    assert not certificate_scores.lower({key: "FFN"}, {key: "FFFN"}) and not certificate_scores.lower({}, {key: "N"})
 
 
 def test_json(run: Run, tmp_path: Path) -> None:
