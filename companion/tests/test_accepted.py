@@ -273,7 +273,7 @@ def test_what_is_proposed_has_to_be_signed(run: Run, table: Write, tmp_path: Pat
 
 
 def test_proposed_entries_are_about_their_findings(run: Run, tmp_path: Path) -> None:
-    """Once signed, those of the example accept all its findings except one that the table has no reason for."""
+    """Once signed, those of the example accept what correct data get. Without a reason an entry is at fault."""
     file = tmp_path / "accepted.csv"
     assert run("check", LINE, "--propose", file)[0] == 2
     rows = list(csv.reader(io.StringIO(file.read_text("utf-8"))))
@@ -289,7 +289,7 @@ def test_proposed_entries_are_about_their_findings(run: Run, tmp_path: Path) -> 
     signed = [[*row[:9], "J. Doe", "2026-05-28", *row[11:]] for row in rows[1:]]
     file.write_text(csv_writing.text(rows[0], signed), "utf-8")
     out = run("check", LINE, "--accepted", file)[1]
-    assert out[-2] == "findings 5, remarks 1: accepted 4, open 2; entries at fault 2"
+    assert out[-2] == "findings 5, remarks 2: accepted 2, open 5; entries at fault 5"
 
 
 def test_correct_data_is_recognized(run: Run, table: Write, tmp_path: Path) -> None:
