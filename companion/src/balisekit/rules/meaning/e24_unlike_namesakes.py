@@ -42,8 +42,10 @@ How sure. 88 %, by practice and memory of the standard.
 from __future__ import annotations
 
 from decimal import Decimal
-from typing import Dict, Iterator, List, Mapping, NamedTuple, Sequence, Tuple
+from functools import lru_cache
+from typing import Dict, FrozenSet, Iterator, List, Mapping, NamedTuple, Sequence, Tuple
 
+from balisekit.etcs.geometry import DIRECTIONS
 from balisekit.etcs.packets import packet_name
 from balisekit.rules.facts import counted, group_words
 from balisekit.rules.line import Line
@@ -62,6 +64,7 @@ from balisekit.rules.meaning.namesakes import (
     signals_of,
 )
 from balisekit.rules.meaning.siblings import lacking_in, said_of, turned_in
+from balisekit.rules.passages import GroupData
 from balisekit.rules.rule import Field, Options, Remark, Result, Rule, Urgency
 from balisekit.rules.telegrams import GRADIENTS, LINKING, SAYS_NOTHING, SPEEDS, Packet
 from balisekit.tables.names import quoted
@@ -102,8 +105,9 @@ def _lacking(cases: Cases) -> Iterator[Part]:
         for number in sorted({packet.number for case in own for packet in case.packets if _is_of_aspect(packet)}):
             some = lacking(own, number)
             if number in FEW or signals_of(some) == 1:
+                lacks = set(map(id, some))
                 for place, case in enumerate(own):
-                    if case in some and not _is_said_elsewhere(case, number):
+                    if id(case) in lacks and not _is_said_elsewhere(case, number):
                         without.setdefault((place, signals_of(own) - signals_of(some)), []).append(number)
         for (place, count), numbers in without.items():
             names = [f"{number} ({packet_name(number)})" for number in numbers]
@@ -124,11 +128,17 @@ def _is_said_elsewhere(case: Case, number: int) -> bool:
         return True
     if number == STOP_IN_SR and case.first(AUTHORITY) and not case.speed:
         return True
-    said, moving = said_of(case.data)
+    return (case.aspect, case.direction) in _told(case.data)
+
+
+@lru_cache(maxsize=1)
+def _told(data: GroupData) -> FrozenSet[Tuple[str, str]]:
+    """The aspects of a group that the rule on the aspects of one group names, and for which direction."""
+    said, moving = said_of(data)
     turned = turned_in(said)
     rest = {aspect: own for aspect, own in said.items() if aspect not in turned}
-    is_lacking = any(key[:2] == (case.aspect, case.direction) for key in lacking_in(rest, moving))
-    return len(said) > 2 and (case.aspect in turned or is_lacking)
+    named = {(aspect, direction) for aspect in turned for direction in DIRECTIONS}
+    return frozenset({*named, *(key[:2] for key in lacking_in(rest, moving))} if len(said) > 2 else ())
 
 
 def _of_value(odd: Odd) -> Part:

@@ -1,7 +1,8 @@
 """Aspects with one name, over all signals of a table: what most of them have, and which one differs. For E24."""
 from __future__ import annotations
 
-from typing import Any, Dict, Iterator, List, Mapping, NamedTuple, Optional, Sequence, Tuple
+from collections import Counter
+from typing import Any, Dict, Iterator, List, Mapping, NamedTuple, Optional, Sequence, Set, Tuple
 
 from balisekit.etcs.geometry import DIRECTIONS
 from balisekit.etcs.variables import Around, value_words, variable_name
@@ -15,17 +16,15 @@ GO = 1
 """The Q_SRSTOP and Q_ASPECT that let a train run."""
 LEAST = 5
 """The fewest signals whose aspects of one name are compared."""
-COMPARED = (
-    ("overlap", "t_ol"),
-    ("overlap", "d_startol"),
-    ("overlap", "v_releaseol"),
-    ("danger_point", "v_releasedp"),
-    ("section_timer", "t_sectiontimer"),
-    ("end_timer", "t_endtimer"),
-    ("elements", "m_mamode"),
-    ("elements", "v_mamode"),
-)
+KEYS: Mapping[str, Sequence[str]] = {
+    "overlap": ("t_ol", "d_startol", "v_releaseol"),
+    "danger_point": ("v_releasedp",),
+    "section_timer": ("t_sectiontimer",),
+    "end_timer": ("t_endtimer",),
+    "elements": ("m_mamode", "v_mamode"),
+}
 """The parts of a packet 12 or 80 whose values are compared, and their keys."""
+COMPARED = tuple((part, key) for part, keys in KEYS.items() for key in keys)
 LENGTHS = (("overlap", "d_ol"), ("danger_point", "d_dp"))
 """The parts that a place may have of its own, and the keys of their lengths."""
 
@@ -154,22 +153,71 @@ def lacking(cases: Sequence[Case], number: int) -> Sequence[Case]:
 
 def odd_values(cases: Cases) -> Iterator[Odd]:
     """The values of one signal that no other aspect of the table has, if all others of the name have the same one."""
-    for part, key in COMPARED:
-        by_name = {name: [each for case in own for each in _values(case, part, key)] for name, own in cases.items()}
-        by_name = {name: [each for each in own if not _has_its_own_place(each, cases)] for name, own in by_name.items()}
-        everywhere = [each for own in by_name.values() for each in own]
-        for own in by_name.values():
-            sent = [each.compared for each in own]
-            usual = max(own, key=lambda each: sent.count(each.compared), default=None)
+    by_part, places = _values_of(cases), _signals_of_lengths(cases)
+    for (_, key), by_name in by_part.items():
+        compared = {name: [each for each in own if not _is_of_a_place(each, places)] for name, own in by_name.items()}
+        for own in compared.values():
+            counts = Counter(each.compared for each in own)
+            usual = max(own, key=lambda each: counts[each.compared], default=None)
             odd = [each for each in own if usual and each.compared != usual.compared]
             if usual is None or signals_of([each.case for each in odd]) != 1:
                 continue
             rest = signals_of([each.case for each in own]) - 1
-            others = {each.compared for each in everywhere if each.case.signal != odd[0].case.signal}
-            if rest >= LEAST - 1 and not others.intersection(each.compared for each in odd):
+            if rest >= LEAST - 1 and not _is_elsewhere(odd, compared):
                 for each in odd:
                     words = f"{each.name} is {each.words}, and {usual.words} {_at(rest)} with it"
                     yield Odd(each.case, each.packet, key, words, each.sent, usual.sent)
+
+
+def _is_elsewhere(odd: Sequence[Value], compared: Mapping[str, Sequence[Value]]) -> bool:
+    """Whether another signal has any of these values of one signal, in an aspect of any name."""
+    own = {each.compared for each in odd}
+    return any(
+        each.compared in own and each.case.signal != odd[0].case.signal for some in compared.values() for each in some
+    )
+
+
+def _values_of(cases: Cases) -> Mapping[Tuple[str, str], Mapping[str, List[Value]]]:
+    """The values that are compared, by the part of the packet and the key, and by the name of the aspect."""
+    found: Dict[Tuple[str, str], Dict[str, List[Value]]] = {each: {} for each in COMPARED}
+    for name, own in cases.items():
+        for case in own:
+            for packet, part, parent in _parts_of(case):
+                for key in KEYS[part]:
+                    found[part, key].setdefault(name, []).append(Value(case, packet, parent, key))
+    return found
+
+
+def _parts_of(case: Case) -> Iterator[Tuple[Packet, str, Any]]:
+    """The parts of the packets 12 and 80 of a case that have values to compare."""
+    for packet in (case.first(AUTHORITY), case.first(MODES)):
+        form: Any = packet.form if packet else {}
+        if packet:
+            sections = [("section_timer", each) for each in form.get("sections", ())]
+            for part, parent in (*sections, *((part, form) for part in KEYS)):
+                own = parent.get(part)
+                yield from ((packet, part, each) for each in (own if part == "elements" else [own]) or () if each)
+
+
+def _signals_of_lengths(cases: Cases) -> Mapping[Tuple[str, int], Set[Tuple[int, str]]]:
+    """The signals that have an overlap or danger point with each D_OL and D_DP in decimetres."""
+    found: Dict[Tuple[str, int], Set[Tuple[int, str]]] = {}
+    for own in cases.values():
+        for case in own:
+            packet = case.first(AUTHORITY)
+            form: Any = packet.form if packet else {}
+            for part, key in LENGTHS:
+                if packet and part in form:
+                    found.setdefault((key, form[part][key] * packet.unit), set()).add(case.signal)
+    return found
+
+
+def _is_of_a_place(value: Value, places: Mapping[Tuple[str, int], Set[Tuple[int, str]]]) -> bool:
+    """Whether it is of an overlap or danger point with a length of its own, or a D_STARTOL that is the end section."""
+    if value.key == "d_startol" and value.sent == value.packet.form["l_endsection"]:
+        return True
+    lengths = [(key, value.parent[key] * value.packet.unit) for _, key in LENGTHS if key in value.parent]
+    return any(places[each] == {value.case.signal} for each in lengths)
 
 
 def contrary_orders(cases: Cases) -> Iterator[Odd]:
@@ -195,29 +243,6 @@ def _contradicts(value: Value) -> bool:
     if value.case.first(AUTHORITY) is None:
         return False
     return value.sent == GO if not value.case.speed else value.sent != GO and value.key == "q_srstop"
-
-
-def _values(case: Case, part: str, key: str) -> Iterator[Value]:
-    """The values of a case in a part of its packet 12 or 80."""
-    packet = case.first(MODES if part == "elements" else AUTHORITY)
-    form: Any = packet.form if packet else {}
-    own = form.get("elements", ()) if part == "elements" else [form.get(part)]
-    sections = [each.get(part) for each in form.get("sections", ())] if part == "section_timer" else []
-    for parent in (*sections, *own):
-        if packet and parent:
-            yield Value(case, packet, parent, key)
-
-
-def _has_its_own_place(value: Value, cases: Cases) -> bool:
-    """Whether it is of an overlap or danger point with a length of its own, or a D_STARTOL that is the end section."""
-    if value.key == "d_startol" and value.sent == value.packet.form["l_endsection"]:
-        return True
-    part, key = next(((part, key) for part, key in LENGTHS if key in value.parent), ("", ""))
-    if not part:
-        return False
-    length = value.parent[key] * value.packet.unit
-    others = (each for own in cases.values() for each in own if each.signal != value.case.signal)
-    return all(other.compared != length for each in others for other in _values(each, part, key))
 
 
 def odd_speeds(cases: Cases) -> Sequence[Odd]:
@@ -247,15 +272,15 @@ def _odd_speeds(cases: Sequence[Case]) -> Iterator[Odd]:
     others = _at(rest)
     own = [case for case in cases if case.speed != case.of_profile]
     if rest >= LEAST - 1 and signals_of(own) == 1:
-        usual = {case.speed for case in cases if case not in own}
+        usual = {case.speed for case in cases if case.speed == case.of_profile}
         for case in own:
             packet = case.first(AUTHORITY)
             if packet and case.of_profile and usual != {case.speed}:
                 words = f"V_MAIN is {speed(case.speed)} and the greatest V_STATIC {speed(case.of_profile)}: {others}"
                 yield Odd(case, packet, "v_main", f"{words} they are equal", case.speed, case.of_profile)
         return
-    sent = [case.speed for case in cases]
-    most = max(sent, key=sent.count, default=0)
+    counts = Counter(case.speed for case in cases)
+    most = max(counts, key=counts.__getitem__, default=0)
     apart = [case for case in cases if case.speed != most]
     if rest >= LEAST - 1 and own and signals_of(apart) == 1:
         for case in apart:
