@@ -64,7 +64,9 @@ def _layouts(text: str) -> FrozenSet[int]:
     found = set()
     for each in text.split(","):
         if not re.fullmatch("[0-9]{1,3}", each.strip()) or int(each) not in known:
-            raise argparse.ArgumentTypeError(f"{each[:40] or 'nothing'} is no raw packet of which balisekit has a layout")
+            raise argparse.ArgumentTypeError(
+                f"{each[:40] or 'nothing'} is no raw packet of which balisekit has a layout"
+            )
         found.add(int(each))
     return frozenset(found)
 

@@ -34,27 +34,21 @@ from __future__ import annotations
 import re
 from collections import Counter
 from decimal import Decimal
-from typing import Any, Callable, Dict, Iterator, List, NamedTuple, Sequence, Tuple
+from typing import Any, Callable, Dict, Iterator, List, NamedTuple, Sequence
 
-from balisekit.etcs.variables import metres
-from balisekit.rules.decoded import Decoded, Owner
+from balisekit.rules.decoded import Owner
 from balisekit.rules.facts import counted, origin
 from balisekit.rules.line import Line
-from balisekit.rules.meaning.along import lane_of, parts
+from balisekit.rules.meaning.radio_borders import TRANSITION, Centre, borders, centre_words
 from balisekit.rules.meaning.sent import Fault, located, remark, sent
-from balisekit.rules.meaning.words import at_place, merged, source
-from balisekit.rules.passages import Passage
+from balisekit.rules.meaning.words import merged
 from balisekit.rules.rule import Options, Remark, Result, Rule, Urgency
 from balisekit.rules.telegrams import Packet
 from balisekit.tables.names import rows_words
 
-SESSION, TRANSITION, NEAR = 42, 131, 5000
-"""NID_PACKET of both packets, and how near in decimetres two places of one border are."""
-LAST_KNOWN, NOW = 16_383, 32_767
-"""NID_RBC of the RBC that was known last, and the D_RBCTR for at once."""
+SESSION, LAST_KNOWN = 42, 16_383
+"""NID_PACKET of session management, and NID_RBC of the RBC that was known last."""
 SHORT, NUMBER = "f" * 16, re.compile("[0-9]+f*")
-Centre = Tuple[int, int]
-"""NID_C and NID_RBC."""
 
 
 class Call(NamedTuple):
@@ -85,20 +79,6 @@ class Call(NamedTuple):
         return is_order and self.digits != SHORT and bool(NUMBER.fullmatch(self.digits))
 
 
-class Border(NamedTuple):
-    """A packet 131 at its place."""
-
-    place: int
-    passage: Passage
-    packet: Packet
-
-    @property
-    def centre(self) -> Centre:
-        """The RBC that trains change to."""
-        form: Any = self.packet.form
-        return form["nid_c"], form["nid_rbc"]
-
-
 def find(line: Line, options: Options) -> Result:
     """Compares the numbers of the whole table, and the borders of each track."""
     calls = [Call(*each) for each in sent(line.decoded, SESSION, TRANSITION) if "nid_radio" in each[1].form]
@@ -106,7 +86,7 @@ def find(line: Line, options: Options) -> Result:
         *_wrong_digits(calls),
         *_unlike(calls, lambda each: each.centre, lambda each: each.digits, _number_words),
         *_unlike(calls, lambda each: each.digits, lambda each: each.centre, _centre_words),
-        *_borders(line.decoded, options),
+        *borders(line.decoded, options),
     ]
     return Result(merged(found), len(calls))
 
@@ -143,7 +123,7 @@ def _unlike(
 def _number_words(call: Call, usual: Call, count: int) -> Fault:
     """One RBC with two numbers."""
     own, other = (each.digits.rstrip("f") for each in (call, usual))
-    words = f"{_centre(call.centre)} has the number {own}, and {other} by {_others(usual, count)}"
+    words = f"{centre_words(call.centre)} has the number {own}, and {other} by {_others(usual, count)}"
     values = {"nid_radio": Decimal(call.form["nid_radio"]), "other_nid_radio": Decimal(usual.form["nid_radio"])}
     return Fault(words, values, [("nid_radio", None)])
 
@@ -151,16 +131,11 @@ def _number_words(call: Call, usual: Call, count: int) -> Fault:
 def _centre_words(call: Call, usual: Call, count: int) -> Fault:
     """One number of two RBC."""
     words = (
-        f"the number {call.digits.rstrip('f')} is that of {_centre(call.centre)}, and that of {_centre(usual.centre)} "
+        f"the number {call.digits.rstrip('f')} is that of {centre_words(call.centre)}, and that of {centre_words(usual.centre)} "
         f"by {_others(usual, count)}"
     )
     keys = [("nid_c", None) if call.centre[0] != usual.centre[0] else ("nid_rbc", None)]
     return Fault(words, {"nid_rbc": Decimal(call.centre[1]), "other_nid_rbc": Decimal(usual.centre[1])}, keys)
-
-
-def _centre(centre: Centre) -> str:
-    """An RBC in words."""
-    return f"RBC {centre[1]} of country {centre[0]}"
 
 
 def _others(usual: Call, count: int) -> str:
@@ -172,46 +147,6 @@ def _others(usual: Call, count: int) -> str:
 
 def _remark(call: Call, fault: Fault) -> Remark:
     return remark("E27", located(call.owner, call.packet), [fault])
-
-
-def _borders(decoded: Decoded, options: Options) -> Iterator[Remark]:
-    """The packets 131 that differ from the most frequent one for their border."""
-    lanes: Dict[Tuple[str, int], Dict[Tuple[int, str], Border]] = {}
-    for passage in decoded.passages:
-        for packet in passage.of(TRANSITION):
-            form: Any = packet.form
-            distance = form.get("d_rbctr", NOW)
-            place = passage.place(distance * packet.unit) if distance != NOW and passage.way is not None else None
-            if place is not None:
-                lanes.setdefault(lane_of(passage), {})[id(packet), passage.direction] = Border(place, passage, packet)
-    for own in lanes.values():
-        for some in parts(sorted(own.values(), key=lambda each: each.place), NEAR):
-            yield from _compare(decoded, options, some)
-
-
-def _compare(decoded: Decoded, options: Options, some: Sequence[Border]) -> Iterator[Remark]:
-    """The packets 131 for one border that differ from the most frequent one."""
-    counts = Counter((each.place, each.centre) for each in some)
-    usual = max(some, key=lambda each: counts[each.place, each.centre])
-    for each in some:
-        tolerance = decoded.tolerance(options.tolerance_of_places, each.packet.unit, usual.packet.unit)
-        apart = abs(each.place - usual.place)
-        if apart > tolerance:
-            places = [at_place(decoded, each.passage, one.place) for one in (each, usual)]
-            difference = f"they differ by {metres(apart)}"
-            words = f"the border is at {places[0]}, and at {places[1]} by {source(usual.passage, usual.packet)}"
-            yield _of_border(each, usual, f"{words}: {difference}", {"apart_m": Decimal(apart) / 10}, "d_rbctr")
-        elif each.centre != usual.centre:
-            by = source(usual.passage, usual.packet)
-            words = f"trains change to {_centre(each.centre)}, and by {by} to {_centre(usual.centre)}"
-            values = {"nid_rbc": Decimal(each.centre[1]), "other_nid_rbc": Decimal(usual.centre[1])}
-            yield _of_border(each, usual, words, values, "nid_rbc")
-
-
-def _of_border(border: Border, usual: Border, words: str, values: Dict[str, Decimal], key: str) -> Remark:
-    """A remark on a packet 131."""
-    made = remark("E27", border.passage.at(border.packet), [Fault(words, values, [(key, None)])])
-    return made._replace(compared=[usual.passage.at(usual.packet)])
 
 
 RULE = Rule("E27", "radio block centres", __doc__ or "", find, Urgency.BRAKING)
