@@ -1,7 +1,7 @@
 """Lines with one mistake each for the rules from E12 on, as teams make them: `examples/meaning/mistakes`.
 
-`python3 companion/tests/meaning_mistakes.py` writes each table, and beside it what `check TABLE --only E --rules all --folded`
-writes after its first lines.
+`python3 companion/tests/meaning_mistakes.py` writes each table, and beside it what
+`check TABLE --only E --rules all --folded` writes after its first lines.
 """
 from __future__ import annotations
 
@@ -67,9 +67,9 @@ def unknown_ahead(distance: int) -> Change:
 
 def movement_authority(number: int) -> Any:
     """A message 3 with the profiles of yellow of signal 3, whose authority counts from a group."""
-    authority = {"end_speed": 0, "end_timeout": 1023, "sections": [], "l_endsection": 1500}
-    profiles = [change(SHORT.rows, "Signal 3", YELLOW, each) for each in (21, 27)]
-    packets = [{"nid_packet": 15, "q_dir": 1, "q_scale": 1, **authority}, *profiles]
+    own: Any = {"nid_packet": 15, "q_dir": 1, "q_scale": 1, **authority(1500)}
+    del own["v_main"]
+    packets = [own, *(change(SHORT.rows, "Signal 3", YELLOW, each) for each in (21, 27))]
     return {"nid_message": 3, "t_train": 100, "m_ack": 0, "nid_c": 352, "nid_bg": number, "packets": packets}
 
 

@@ -76,7 +76,7 @@ def _fault(packet: Packet, layout: Layout, is_full: bool) -> Optional[RawFault]:
     """What does not fit: in full, or only a body that is too short or too long for each form of the packet."""
     content = content_of(packet.form)
     if content is None or is_full:
-        return content and content.fault
+        return content.fault if content else None
     fits = content.left and content.left == MAY_FOLLOW.get(layout.number)
     return None if fits else content.misfit
 

@@ -22,9 +22,10 @@ km 14.000, both for 500 m with 40 km/h. After: Signal 4 has no packet 65, becaus
 
 When it is a false alarm. The rule assumes that each NID_TSR belongs to one restriction only. Two restrictions might
 have the same number, if one of them is on another route. It assumes that all packets state the complete restriction
-exactly. D_TSR or L_TSR might be on the safe side, or might depend on the aspect or the route. A template might hold a packet 65 ready, with a length of 0 or with a speed
-that restricts nobody. The rule assumes that the table has the packet 65 for each packet 66, as soon as it has any. The
-packet 65 might be in a group that is laid for some weeks, or come by radio. {kilometres} {missing} {one way}
+exactly. D_TSR or L_TSR might be on the safe side, or might depend on the aspect or the route. It assumes that each
+packet 65 restricts trains, although a template might hold one ready without a length or with a great speed. It assumes
+that the table has the packet 65 for each packet 66, as soon as it has any. The packet 65 might be in a group that is
+laid for some weeks, or come by radio. {kilometres} {missing} {one way}
 
 Usual cause. D_TSR was not generated again for the second group. Or a restriction was changed in one group only. Or an
 NID_TSR was typed wrongly.

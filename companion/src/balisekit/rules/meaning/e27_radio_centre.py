@@ -14,7 +14,7 @@ them by layouts of its own. The rule rests on SUBSET-026, 3.5, 3.15.1 and 7.5.1.
 Why it matters. At worst the train brakes without need. It calls a wrong number or a wrong RBC, and has no movement
 authority at the border.
 
-Example. Before (`examples/meaning/mistakes/E27.csv`): by Signal 3 (km 13.003) the RBC 1 of country 352 has the number
+Example. Before (`examples/meaning/mistakes/E27.csv`): by Signal 3 (km 13.000) the RBC 1 of country 352 has the number
 0123465789, and by 2 other packets 0123456789. After: all packets have the same number.
 
 When it is a false alarm. The rule assumes that each RBC has one telephone number. An RBC might have several numbers,
@@ -130,10 +130,8 @@ def _number_words(call: Call, usual: Call, count: int) -> Fault:
 
 def _centre_words(call: Call, usual: Call, count: int) -> Fault:
     """One number of two RBC."""
-    words = (
-        f"the number {call.digits.rstrip('f')} is that of {centre_words(call.centre)}, and that of {centre_words(usual.centre)} "
-        f"by {_others(usual, count)}"
-    )
+    own, other = (centre_words(each.centre) for each in (call, usual))
+    words = f"the number {call.digits.rstrip('f')} is that of {own}, and that of {other} by {_others(usual, count)}"
     keys = [("nid_c", None) if call.centre[0] != usual.centre[0] else ("nid_rbc", None)]
     return Fault(words, {"nid_rbc": Decimal(call.centre[1]), "other_nid_rbc": Decimal(usual.centre[1])}, keys)
 

@@ -10,7 +10,7 @@ What it says. A packet is for trains that run one way, and nothing else on its t
 Why it matters. At worst the train gets wrong information, or lacks it. The trains of this track do not get the packet,
 such as an order to open a session or to revoke a restriction.
 
-Example. Before (`examples/meaning/mistakes/E28.csv`): the packet 42 of Signal 3 (km 13.003) has Q_DIR 0 (reverse), and
+Example. Before (`examples/meaning/mistakes/E28.csv`): the packet 42 of Signal 3 (km 13.000) has Q_DIR 0 (reverse), and
 all other packets of the line are for trains towards greater kilometres. After: the packet 42 has Q_DIR 1.
 
 When it is a false alarm. The rule assumes that a track on which only one group has anything for a direction is for the

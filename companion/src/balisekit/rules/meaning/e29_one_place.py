@@ -2,20 +2,20 @@
 
 What it says. Packets of two groups state different places, lengths or values of what looks like one track condition.
 The rule rests on SUBSET-026, 3.12.1 and 7.4.2.
-- The packets are 68 (track condition), 71 (adhesion factor), 138 (reversing area), and 131 by E27. The packets 39, 40,
-  67, 69 and 88 are compared too if `layouts` in `[check]` names them, because balisekit is not sure of their layouts.
-- Conditions of one kind are compared on one track, for trains that run the same way, if one begins at most 200 m from
-  the other one and no packet has both. A change of the traction system to one system, and a level crossing with one
-  NID_LX, are compared up to 2 km.
+- The packets are 68 (track condition), 71 (adhesion factor) and 138 (reversing area). The packets 39, 40, 67, 69 and 88
+  are compared too if `layouts` in `[check]` names them, because balisekit is not sure of their layouts.
+- Conditions of one kind are compared on one track, for trains that run the same way. One must begin at most 200 m from
+  the other one, and no packet may have both.
+- A change to one traction system and a level crossing with one NID_LX are compared up to 2 km.
 - Places and lengths may differ by `--tolerance` (default 1 m) and rounding.
 - The most frequent place counts as right.
 - A group within the condition might send only the rest of it. Such a packet has the distance 0, and it agrees if the
   end of the condition is the same.
 
-Why it matters. At worst the train gets wrong information: the driver stops in a tunnel, or lowers the pantograph too
+Why it matters. At worst the train gets wrong information: the driver stops in a tunnel, or switches the power off too
 late.
 
-Example. Before (`examples/meaning/mistakes/E29.csv`): Signal 4 (km 14.503) has a condition at km 15.650, and Signal 3
+Example. Before (`examples/meaning/mistakes/E29.csv`): Signal 4 (km 14.500) has a condition at km 15.650, and Signal 3
 has it at km 15.500, both for 300 m. After: both have it at km 15.500.
 
 When it is a false alarm. The rule assumes that conditions of one kind within 200 m are one condition. Two short ones

@@ -3,15 +3,15 @@
 What it says. A packet 5 announces a group with repositioning information that is not there, or L_SECTION of a packet 16
 (repositioning information) does not lead to a linked group. The rule rests on SUBSET-026, 3.4.4, 3.8.5 and 7.4.2.
 - A link with NID_BG 16,383 (not known) announces a group with a packet 16, whose identity depends on the route. It is
-  reported if D_LINK leads to a place between the ends of the table's track, and no group of the table has a packet 16
-  for trains that run this way. A group of another track counts too.
-- L_SECTION is compared with the packets 5 of the same message. It is reported if it ends more than 50 m from each of
-  their groups.
+  reported if no group of the table has a packet 16 for trains that run this way. Groups of other tracks count too.
+- Such a link is only reported if D_LINK leads to a place between the ends of the table's track.
+- L_SECTION is compared with the packets 5 of the same message. It is reported if it ends more than 50 m from each group
+  that these packets name.
 
 Why it matters. At worst the train gets wrong information: the section of its authority ends at another place than the
 signal. Without the packet 16 the train keeps the length of the longest route, and brakes too early.
 
-Example. Before (`examples/meaning/mistakes/E30.csv`): Signal 3 (km 13.003) announces a group 1,000 m farther with
+Example. Before (`examples/meaning/mistakes/E30.csv`): Signal 3 (km 13.000) announces a group 1,000 m farther with
 NID_BG 16,383, and no group of the table has a packet 16. After: the packet 5 names Signal 4 with its NID_BG.
 
 When it is a false alarm. The rule assumes that the table has all groups of its tracks. A group with a packet 16 might
@@ -29,12 +29,12 @@ How sure. 87 %, by practice and memory of the standard.
 from __future__ import annotations
 
 from collections import Counter
-from decimal import Decimal
-from typing import Any, Iterator, Optional, Set, Tuple
+from typing import Any, Iterator, List, Optional, Set, Tuple
 
 from balisekit.etcs.variables import metres
 from balisekit.rules.decoded import Decoded
 from balisekit.rules.line import Line
+from balisekit.rules.location import NOT_KNOWN
 from balisekit.rules.meaning.along import NEAR, unread_of
 from balisekit.rules.meaning.sent import Fault, distance, remark, tolerance
 from balisekit.rules.meaning.words import merged
@@ -49,7 +49,8 @@ def find(line: Line, options: Options) -> Result:
     """Looks at each link to a group that is not known yet, and at each packet 16."""
     decoded = line.decoded
     ways = {passage.way for passage in decoded.passages if passage.of(REPOSITIONING)}
-    found, looked_at = [], 0
+    found: List[Remark] = []
+    looked_at = 0
     lacks: Counter[str] = Counter()
     for passage in decoded.passages:
         for packet in passage.said:
@@ -71,7 +72,7 @@ def _announced(
         return
     if decoded.is_inside(passage.track, place):
         words = (
-            f"NID_BG 16,383 announces a group with a packet 16 (repositioning) at {decoded.km(passage.track, place)}, "
+            f"NID_BG {NOT_KNOWN} announces a group with a packet 16 (repositioning) at {decoded.km(passage.track, place)}, "
             f"{metres(link.total)} from the group, and no group of the table has one for these trains"
         )
         values = {"d_link_m": distance(link.total)}
@@ -84,7 +85,7 @@ def _section(options: Options, passage: Passage, packet: Packet) -> Iterator[Rem
     ends: "list[Tuple[int, int]]" = [(link.total, link.unit) for link in passage.links if link.known]
     if "l_section" not in form or not ends:
         return
-    section = form["l_section"] * packet.unit
+    section = int(form["l_section"]) * packet.unit
     (nearest, unit) = min(ends, key=lambda each: abs(each[0] - section))
     allowed = NEAR + tolerance(options, (packet, 1)) + unit
     if abs(nearest - section) > allowed:

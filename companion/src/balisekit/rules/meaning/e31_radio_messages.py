@@ -114,10 +114,10 @@ def _at_once(
     place = report["nid_c"], report["nid_bg"], report["d_lrbg"] * unit, report["q_dlrbg"]
     first, other = reported.setdefault((form["nid_engine"], form["t_train"]), (message, place))
     if form["t_train"] != NOT_KNOWN_TIME and other != place:
+        own, its = (f"{metres(each[2])} from {describe_identity((each[0], each[1]))}" for each in (place, other))
         words = (
-            f"at T_TRAIN {form['t_train']} the train {form['nid_engine']} is {metres(place[2])} from "
-            f"{describe_identity((place[0], place[1]))}, and {metres(other[2])} from {describe_identity((other[0], other[1]))} "
-            f"by the message of {describe_message(first)}"
+            f"at T_TRAIN {form['t_train']} the train {form['nid_engine']} is {own}, and {its} by the message of "
+            f"{describe_message(first)}"
         )
         made = _remark(message, words, {"t_train": Decimal(form["t_train"])})
         yield made._replace(compared=[Location(message=first)])
