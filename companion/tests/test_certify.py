@@ -14,6 +14,7 @@ import certificate_scores
 import mistakes_page
 import pytest
 from conftest import Run
+from link_tables import without_orientations
 from meaning_line import table
 from meaning_mistakes_of_groups import raw
 
@@ -235,10 +236,8 @@ def test_one_change_of_several_kinds(program: Program) -> None:
 def test_incomplete(run: Run, tmp_path: Path, cut: bool) -> None:
     """If the line itself cannot be judged completely, the status is 2, and all outputs give the reasons of `check`."""
     pytest.importorskip("jinja2")
-    rows = csv.DictReader((TOP / "examples" / "links" / "line.csv").read_text("utf-8").splitlines())
-    lines = [f"{row['group']},{row['km'].split('.')[0]},{row['telegram']}" for row in rows if row["group"] in "AB"]
     path, answer, page = (tmp_path / name for name in ("t.csv", "a.json", "a.html"))
-    path.write_text("\n".join(["group,km,telegram", *lines, *([f"C,20,{'0' * 53}"] if cut else [])]), "utf-8")
+    path.write_text("\n".join(["group,km,telegram", *without_orientations(), *([f"C,20,{'0' * 53}"] if cut else [])]), "utf-8")
     _, checked, _ = run("check", path)
     status, out, _ = run("certify", path, "--minutes", "0.01", "--json", answer, "--html", page)
     made = json.loads(answer.read_text("utf-8"))
