@@ -43,7 +43,7 @@ def is_named(change: Changed, entries: List[Any]) -> bool:
     )
 
 
-@pytest.mark.parametrize("most, seeds, unnamed", [(12, range(99), {"links_cut": 1}), (30, range(66), {})])
+@pytest.mark.parametrize("most, seeds, unnamed", [(12, range(63), {}), (30, range(42), {})])
 def test_changes(run: Run, program: Program, tmp_path: Path, most: int, seeds: range, unnamed: Dict[str, int]) -> None:
     """Each change is named, but for the number of each kind that is known. (The longest tests here, so the first.)"""
     path, answer = tmp_path / "t.csv", tmp_path / "t.json"
