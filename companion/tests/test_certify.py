@@ -125,12 +125,13 @@ def test_quick_way_of_messages(run: Run, program: Program, tmp_path: Path) -> No
     messages, answer, changed_file = (tmp_path / name for name in ("m.txt", "a.json", "changed.txt"))
     messages.write_text("\n".join(["", *radio_messages(program)]), "utf-8")
     baseline = baseline_of(program, LINE, messages)
-    before, compared = said(run, answer, LINE, "--messages", messages), set()
+    before, radio = said(run, answer, LINE, "--messages", messages), messages_file.read(str(messages))
+    compared: Set[Answer] = set()
     for trial in trials(Original(baseline.outcome.checked), 1, 1)[::3]:
         places = {*trial.change.rows, *trial.change.lost}
         if trial.fits and all(place < 0 for place in places):
             quick = judged(baseline, trial).answer
-            changed_file.write_text(messages_text(baseline.outcome.checked.messages, trial), "utf-8")
+            changed_file.write_text(messages_text(radio, trial), "utf-8")
             slow = slow_answer(before, said(run, answer, LINE, "--messages", changed_file), places)
             assert slow is (Answer.NOT_FOUND if quick is Answer.LEGAL else quick), trial.change.words
             compared.add(quick)

@@ -35,11 +35,12 @@ def found_in(program: Program, path: Path, seed: int, most: int) -> List[str]:
 
 
 def is_named(change: Changed, entries: List[Any]) -> bool:
-    """Whether an entry has a row of the change, and its value."""
+    """Whether an entry, or one that is folded below it, has a row of the change, and its value."""
     return any(
         change.numbers.intersection([*each["rows"], *each["other_rows"]])
         and any(words in each["sentence"] for words in change.words)
-        for each in entries
+        for entry in entries
+        for each in (entry, *entry["folded"])
     )
 
 

@@ -1,7 +1,7 @@
 """The examples of a certificate as files: the table with one mistake, and the messages if the mistake is in them."""
 from __future__ import annotations
 
-from typing import Dict, Iterator, List, NamedTuple, Sequence
+from typing import Any, Dict, Iterator, List, Mapping, NamedTuple, Sequence
 
 from balisekit.certificate.certificate import Certificate
 from balisekit.certificate.trials import Trial
@@ -39,8 +39,8 @@ def table_text(table: Table, trial: Trial) -> str:
     """The table after a change. Each row has the number that it had: a row that is lost is empty."""
     rows: Dict[int, Row] = {row.number: row for row in table.rows if row.number not in trial.change.lost}
     for number, row in rows.items():
-        cells = {"cell": trial.texts.get(number, row.cell), **trial.change.cells.get(number, {})}
-        rows[number] = row._replace(**cells)
+        cells: Mapping[str, Any] = trial.change.cells.get(number, {})
+        rows[number] = row._replace(cell=trial.texts.get(number, row.cell))._replace(**cells)
     return csv_writing.text(COLUMNS, (_cells(rows[n]) if n in rows else [""] * 8 for n in range(2, max(rows) + 1)))
 
 

@@ -1,6 +1,7 @@
 """A group is some metres beside the place for which its telegrams were made.
 
-In real life. A group was mounted 20 m further on because of a bridge. The table was corrected, and the telegrams stayed.
+In real life. A group was mounted 20 m further on because of a bridge. The table was corrected, and the telegrams were
+not.
 
 Here. The kilometres of a group are greater by 20 m, in all its rows.
 
