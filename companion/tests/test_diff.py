@@ -384,7 +384,7 @@ def test_the_page(run: Run, table: Write, tmp_path: Path) -> None:
     status, out, _ = run("diff", LINKS / "line.csv", new, "--html", page)
     said = page.read_text("utf-8")
     assert status == 1 and "<script" not in said and "\u202e" not in said and "&lt;script&gt;" in said
-    assert "<tr><td>packet 0 (linking, nominal)  link 0</td><td>D_LINK</td>" in said
+    assert "<tr><td>packet 5 (linking, nominal), first in the telegram  link 0</td><td>D_LINK</td>" in said
     assert "1010 m [1010]" in said and out[-1] in said and "not proved" in said
     assert not re.search(r"https?://|<img|<link", said)
     if shutil.which("chromium") is None:
