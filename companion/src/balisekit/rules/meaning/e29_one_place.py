@@ -76,7 +76,7 @@ def _compare(line: Line, options: Options, some: Sequence[Condition], near: int)
         firsts.setdefault(each.says, each)
         groups.setdefault(each.says, set()).add(id(each.passage.group or each.passage.message))
         packets.setdefault(id(each.packet), set()).add(each.says)
-    together = set(map(frozenset, packets.values()))
+    together = {frozenset(own) for own in packets.values()}
     order = {says: (-len(groups[says]), place) for place, says in enumerate(firsts)}
     for each in some:
         better = [one for one in firsts.values() if order[one.says] < order[each.says]]
