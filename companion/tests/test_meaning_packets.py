@@ -458,7 +458,7 @@ def test_e6_of_authorities(program: Program, tmp_path: Path, further: List[Any],
     """A message 3 has exactly one packet 15 and no packet 12. Equal ones and those of the other direction count too."""
     authority: Any = {"q_scale": 1, "end_speed": 0, "end_timeout": 1023, "sections": [], "l_endsection": 900}
     level: Any = {"q_scale": 1, "elements": [{"d_gradient": 0, "q_gdir": 1, "g_a": 255}]}
-    others = [{"q_dir": 0, **(level if each["nid_packet"] == 21 else authority), **dict(each)} for each in further]
+    others = [{"q_dir": 0, **(level if each["nid_packet"] == 21 else authority), **each} for each in further]
     form: Any = {"nid_message": 3, "t_train": 1, "m_ack": 0, "nid_c": 352, "nid_bg": 1}
     (made,) = program.encode([{**form, "packets": [{"nid_packet": 15, "q_dir": 1, **authority}, *others]}], radio=True)
     path = tmp_path / "m.txt"

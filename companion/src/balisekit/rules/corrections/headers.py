@@ -5,7 +5,7 @@ The rest shows what is right, so such a correction may explain a single entry, w
 from __future__ import annotations
 
 from collections import Counter
-from typing import Iterator, List, Sequence, Tuple
+from typing import Any, Iterator, List, Mapping, Sequence, Tuple
 
 from balisekit.etcs.variables import Around, value_words
 from balisekit.rules.corrections.correction import Correction, Evidence, with_values
@@ -44,12 +44,13 @@ def _like(
     evidence: Evidence, group: Group, key: str, parts: Sequence[Tuple[List[Row], List[Row]]]
 ) -> Iterator[Correction]:
     """The rows of a group whose value of a key is another one than in all rows of other groups."""
+    headers: Mapping[int, Any] = evidence.forms
     for own, others in parts:
-        counts = Counter(evidence.forms[row.number][key] for row in others)
+        counts = Counter(headers[row.number][key] for row in others)
         if len(counts) != 1 or len({row.group for row in others}) < LEAST:
             continue
         ((usual, _),) = counts.items()
-        wrong = {row.number: evidence.forms[row.number][key] for row in own if evidence.forms[row.number][key] != usual}
+        wrong = {row.number: headers[row.number][key] for row in own if headers[row.number][key] != usual}
         if wrong and len(set(wrong.values())) == 1:
             found, name = next(iter(wrong.values())), key.upper()
             values = [f"{each}{_meaning(key, each)}" for each in (found, usual)]
