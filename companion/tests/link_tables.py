@@ -160,7 +160,7 @@ def table(program: Program, rows: List[Item]) -> str:
 def without_orientations() -> List[str]:
     """The rows `group,km,telegram` of A and B of the line without faults. Each group has one kilometre.
 
-    Their links lead to groups that are not in the table or turn no balise, so L3 compares none of them.
+    L3 has two links to compare, and both lead to groups that are not in the table.
     """
     rows = csv.DictReader((FOLDER / "line.csv").read_text("utf-8").splitlines())
     places = {"A": "10.000", "B": "11.000"}
