@@ -419,7 +419,7 @@ def test_e6_leaves_out_equal_packets(program: Program, tmp_path: Path) -> None:
         ),
     ],
 )
-def test_e6_of_authorities(program: Program, tmp_path: Path, further: List[Form], words: List[str]) -> None:
+def test_e6_of_authorities(program: Program, tmp_path: Path, further: List[Any], words: List[str]) -> None:
     """A message 3 has exactly one packet 15 and no packet 12. Equal ones and those of the other direction count too."""
     authority: Any = {"q_scale": 1, "end_speed": 0, "end_timeout": 1023, "sections": [], "l_endsection": 900}
     level: Any = {"q_scale": 1, "elements": [{"d_gradient": 0, "q_gdir": 1, "g_a": 255}]}
