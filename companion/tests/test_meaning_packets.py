@@ -27,7 +27,6 @@ from meaning_mistakes_of_groups import (
 from test_meaning import remarks, written
 
 from balisekit.engine.program import Program
-from balisekit.etcs.variables import Form
 from balisekit.rules import checking, meaning
 from balisekit.rules.line import Line as LineOfTable
 from balisekit.rules.rule import ALL, Options
