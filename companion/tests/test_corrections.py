@@ -11,6 +11,7 @@ import meaning_line
 import pytest
 from conftest import Run
 from meaning_line import Line, Row
+from meaning_mistakes import form_of
 from test_meaning import Change, written
 
 from balisekit.engine.program import Program
@@ -69,6 +70,36 @@ def answers(run: Run, path: Path, *words: str) -> Tuple[List[str], Dict[str, Any
     assert status == 1
     found: Dict[str, Any] = json.loads(output.read_text("utf-8"))
     return out, found
+
+
+@pytest.mark.parametrize(
+    "change, signals, rows, sentence",
+    [
+        (
+            lambda rows: form_of(rows, "Signal 6", "*").update(m_version=32),
+            6,
+            [22],
+            "M_VERSION is 32 (2.0), and 33 (2.1) in all 5 other groups: with 33 all would agree",
+        ),
+        (lambda rows: form_of(rows, "Signal 3", "*").update(m_version=32), 5, [11, 12, 13], ""),
+        (
+            lambda rows: form_of(rows, "Signal 3", "red").update(m_mcount=2),
+            6,
+            [11],
+            'M_MCOUNT is 2, and 1 in each "red" of 5 other groups: with 1 all would agree',
+        ),
+        (lambda rows: form_of(rows, "Signal 3", "red").update(m_mcount=2), 5, [12], ""),
+    ],
+)
+def test_a_header_that_the_rest_of_the_table_corrects(
+    run: Run, program: Program, tmp_path: Path, change: Change, signals: int, rows: List[int], sentence: str
+) -> None:
+    """It is at its own row, although the program compares another one with it. Four other groups are too few."""
+    path = written(program, tmp_path / "t.csv", Line(signals=signals), change)
+    out, found = answers(run, path)
+    (entry,) = found["entries"]
+    assert entry["rows"] == rows and len(entry["folded"]) == bool(sentence)
+    assert not sentence or entry["sentence"] == sentence and "folded below it: 1 entry (F" in "\n".join(out)
 
 
 def test_a_kilometre_with_exchanged_digits(run: Run, program: Program, tmp_path: Path) -> None:

@@ -17,7 +17,7 @@ from balisekit.rules.applied import Applied, Notes, look_for, no_notes, results_
 from balisekit.rules.checking import Checked, Place, check
 from balisekit.rules.corrections import SUGGESTIONS
 from balisekit.rules.corrections.correction import Correction, Evidence
-from balisekit.rules.corrections.trying import LEAST, Again, Answer, explained
+from balisekit.rules.corrections.trying import Again, Answer, explained
 from balisekit.rules.discovery import ADDED, first_to_last, letter_of
 from balisekit.rules.entries import Entry, entries, entry_of, with_stop_aspects
 from balisekit.rules.line import Line
@@ -327,7 +327,7 @@ def _with_causes(checked: Checked, parts: Sequence[Part], again: Again, options:
     own = [part for part in parts if part.family.letter != ADDED]
     still_open = [entry for part in own for entry in part.open if not entry.expected]
     line = next((part.applied.line for part in parts if part.applied), None)
-    if len(still_open) < LEAST or line is None:
+    if not still_open or line is None:
         return list(parts)
     skipped = {rule.name: each.skipped for part in parts if part.applied for rule, each in part.applied.results.items()}
     before = Answer([entry for part in parts for entry in part.entries], skipped, _refused(checked))

@@ -37,8 +37,6 @@ OF_PROFILES = {10: (12, 15, 21), 11: (12, 15, 21), 12: (12, 15, 27), 13: (12, 15
 """The packets that findings of profiles compare, by the rule F."""
 STRANGE = "other_NID_C"
 """A value of the finding F3 of one telegram with another identity than all others of its group."""
-LEAST = 2
-"""A correction that explains fewer entries is none: the entry itself says as much."""
 NUMBER = re.compile(r"[+-]?\d(?:[\d.,]*\d)?")
 
 
@@ -75,7 +73,7 @@ def explained(
     most = min(MOST, JUDGED // max(len(evidence.checked.table.rows) + len(before.entries), 1))
     had = Counter(map(_key, before.entries if most else ()))
     for stage in suggestions:
-        if len(evidence.entries) < LEAST:
+        if not evidence.entries or len(evidence.entries) == 1 and stage is not suggestions[0]:
             break
         some = islice((each for suggest in stage for each in suggest(evidence)), most)
         tried = _of_stage(evidence, some, partial(_gone, evidence, before, had, again))
@@ -96,8 +94,10 @@ def _of_stage(
     for correction in some:
         if like is not None and not correction.is_like(like):
             break
+        if len(evidence.entries) < correction.least:
+            continue
         gone = gone_with(correction)
-        if len(gone) >= LEAST and (not correction.is_only_place or is_of_one_packet(gone)):
+        if len(gone) >= correction.least and (not correction.is_only_place or is_of_one_packet(gone)):
             yield Explained(correction, gone)
         like = correction if len(gone) == len(evidence.entries) else like
 
