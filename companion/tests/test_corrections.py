@@ -16,7 +16,7 @@ from test_meaning import Change, written
 
 from balisekit.engine.program import Program
 from balisekit.engine.records import Form
-from balisekit.rules import checking, families
+from balisekit.rules import applied, checking, families
 from balisekit.rules.corrections import kilometres
 from balisekit.rules.corrections.correction import Correction, Evidence
 from balisekit.rules.families import FAMILIES, apply, items_of
@@ -242,7 +242,7 @@ def test_nothing_is_asked_of_a_corrected_table_after_a_new_entry(
     made = checking.check(program, reader.read(str(path)))
     monkeypatch.setattr(families, "SUGGESTIONS", ((suggest,),))
     asked: List[str] = []
-    results_of = families.results_of
+    results_of = applied.results_of
 
     def noted(line: Railway, options: Options, rules: Sequence[Rule]) -> Iterator[Tuple[Rule, Result]]:
         for rule, result in results_of(line, options, rules):

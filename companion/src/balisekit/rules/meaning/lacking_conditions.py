@@ -21,9 +21,10 @@ def lacking_conditions(line: Line, options: Options, data: GroupData) -> Iterato
         by_direction.setdefault(passage.direction, []).append(passage)
     for some in by_direction.values():
         found: Dict[Tuple[int, int], List[int]] = {}
+        said = [{packet.number for packet in passage.said} for passage in some]
         for number in CONDITIONS:
-            having = [place for place, passage in enumerate(some) if passage.of(number)]
-            without = [place for place, each in enumerate(some) if place not in having and _end(each)]
+            having = [place for place, own in enumerate(said) if number in own]
+            without = [place for place, own in enumerate(said) if having and number not in own and _end(some[place])]
             if len(having) >= SIBLINGS - 1 and len(without) == 1:
                 (lone,) = without
                 if any(_leads_as_far(line, options, some[lone], some[place]) for place in having):
