@@ -71,20 +71,28 @@ def _compare(line: Line, options: Options, some: Sequence[Condition], near: int)
     """Those that differ from what most groups say, if no packet has both. Of two that differ one is reported."""
     firsts: Dict[Tuple[int, int], Condition] = {}
     groups: Dict[Tuple[int, int], Set[int]] = {}
-    packets: Dict[int, Set[Tuple[int, int]]] = {}
+    packets: Dict[int, List[Condition]] = {}
     for each in some:
         firsts.setdefault(each.says, each)
         groups.setdefault(each.says, set()).add(id(each.passage.group or each.passage.message))
-        packets.setdefault(id(each.packet), set()).add(each.says)
-    together = {frozenset(own) for own in packets.values()}
+        packets.setdefault(id(each.packet), []).append(each)
+    several = [own for own in packets.values() if len(own) > 1]
     order = {says: (-len(groups[says]), place) for place, says in enumerate(firsts)}
     for each in some:
         better = [one for one in firsts.values() if order[one.says] < order[each.says]]
         better = [one for one in better if abs(one.place - each.place) <= near]
         usual = min(better, key=lambda one: order[one.says], default=None)
         if usual and not _agree(line, options, each, usual):
-            if not any({each.says, usual.says} <= own for own in together):
+            if not any(_has_both(line, options, own, each, usual) for own in several):
                 yield _remark(line, each, usual)
+
+
+def _has_both(line: Line, options: Options, own: Sequence[Condition], one: Condition, other: Condition) -> bool:
+    """Whether a packet has both conditions, so that they are two."""
+    like_one, like_other = (
+        {index for index, each in enumerate(own) if _agree(line, options, each, wanted)} for wanted in (one, other)
+    )
+    return any(first != second for first in like_one for second in like_other)
 
 
 def _agree(line: Line, options: Options, one: Condition, other: Condition) -> bool:

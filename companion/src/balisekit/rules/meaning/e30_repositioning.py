@@ -98,4 +98,4 @@ def _section(options: Options, passage: Passage, packet: Packet) -> Iterator[Rem
         yield remark("E30", passage.at(packet), [Fault(words, values, [("l_section", None)])])
 
 
-RULE = Rule("E30", "repositioning", __doc__ or "", find, Urgency.WRONG_INFORMATION)
+RULE = Rule("E30", "packets and links of repositioning", __doc__ or "", find, Urgency.WRONG_INFORMATION)
