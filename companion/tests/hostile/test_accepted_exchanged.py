@@ -154,7 +154,9 @@ def accepted_wrongly(
         assert found.judged is not None
         pairs = zip(keys(found.items, found.checked), found.judged.items, found.judged.by_item)
         wrong += [
-            f"{words}: {key}: {said(it)}" for key, it, entry in pairs if entry and (key, said(it)) not in known[entry.row]
+            f"{words}: {key}: {said(it)}"
+            for key, it, entry in pairs
+            if entry and (key, said(it)) not in known[entry.row]
         ]
     return wrong
 
@@ -193,7 +195,9 @@ def test_no_entry_for_a_finding_outlives_an_exchange(program: Program, tmp_path:
 def test_an_entry_with_a_star_after_an_exchange(run: Run, tmp_path: Path, monkeypatch: pytest.MonkeyPatch) -> None:
     """Telegrams of "yellow" and "green" of Signal 2 are exchanged: entries with `*` as aspect had accepted both."""
     set_day(monkeypatch, 1780000000)
-    wide = [{**dict(zip(FIELDS, (rule, "352", group, "", ANY, "", "", "nominal"))), **SIGNED} for rule, group in STARRED]
+    wide = [
+        {**dict(zip(FIELDS, (rule, "352", group, "", ANY, "", "", "nominal"))), **SIGNED} for rule, group in STARRED
+    ]
     one, other = (HERE / f"starred/{name}.csv" for name in ("proceed", "exchanged"))
     file = entries(tmp_path / "a.csv", *wide)
     _, out, _ = run("check", one, "--only", "F", "--accepted", file)

@@ -296,9 +296,10 @@ def _rows_of_aspect(place: Place) -> Iterator[int]:
 
 
 def _judged_again(checked: Checked, letters: Sequence[str], options: Options, table: Table) -> Answer:
-    """What the same rules find of a corrected table, whatever was accepted."""
+    """What the same rules find of a corrected table, whatever was accepted. Added rules see only the table itself."""
     made = check(checked.program, table, checked.messages, table.reading.by_position)
-    return _answer(apply(made, letters, options, with_causes=False).parts, made)
+    own = [letter for letter in letters if letter != ADDED]
+    return _answer(apply(made, own, options._replace(added=()), with_causes=False).parts, made)
 
 
 def _answer(parts: Sequence[Part], checked: Checked) -> Answer:
@@ -316,7 +317,7 @@ def _with_causes(checked: Checked, parts: Sequence[Part], again: Again, options:
     if len(still_open) < LEAST or line is None:
         return list(parts)
     evidence = Evidence(checked, line, options, still_open)
-    found = explained(evidence, _answer(parts, checked), again, SUGGESTIONS)
+    found = explained(evidence, _answer(own, checked), again, SUGGESTIONS)
     made = [_standing_for(checked, *each) for each in found]
     line.for_pictures()
     folded = {id(entry) for cause in made for entry in cause.folded}
