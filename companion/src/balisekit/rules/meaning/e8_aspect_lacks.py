@@ -53,7 +53,7 @@ from balisekit.rules.meaning.lacking_conditions import lacking_conditions
 from balisekit.rules.meaning.siblings import SIBLINGS, Moving, Said, lacking_in, said_of, turned_in
 from balisekit.rules.meaning.stops import packet_of_stop, stopping, stops_of, stops_without_order
 from balisekit.rules.passages import GroupData, Passage
-from balisekit.rules.rule import Options, Remark, Result, Rule, Urgency
+from balisekit.rules.rule import REFUSED, Options, Remark, Result, Rule, Urgency
 from balisekit.tables.names import listed, quoted
 
 DANGER_FOR_SH, NAMED = 132, 5
@@ -62,12 +62,17 @@ DANGER_FOR_SH, NAMED = 132, 5
 
 def find(line: Line, options: Options) -> Result:
     """Looks at the aspects of each group, then at the stop aspects of the table."""
-    groups = [
-        data for data in line.decoded.controlled if len(data.group.group.aspects) >= SIBLINGS and not data.group.unread
-    ]
+    several = [data for data in line.decoded.controlled if len(data.group.group.aspects) >= SIBLINGS]
+    groups = [data for data in several if not data.group.unread]
+    unread = len(several) - len(groups)
     found = [remark for data in groups for remark in (*_siblings(data), *_conditions(line, options, data))]
     stops = stopping(line.decoded)
-    return Result([*found, *_without_stop(line), *_without_danger(stops)], len(groups))
+    return Result(
+        [*found, *_without_stop(line), *_without_danger(stops)],
+        len(groups),
+        {REFUSED: unread} if unread else {},
+        is_optional=True,
+    )
 
 
 def _siblings(data: GroupData) -> Iterator[Remark]:
