@@ -11,7 +11,7 @@ import meaning_line
 import meaning_mistakes
 import pytest
 from conftest import Run
-from meaning_line import Line, Row, change, packet, table
+from meaning_line import Line, Row, change, table
 from meaning_mistakes import (
     BORDER,
     BOTH,
@@ -1018,7 +1018,7 @@ def repositioning(section: int, announced: int = 16_383) -> Change:
     def insert(rows: List[Row]) -> None:
         site = meaning_line.Site("Repositioning", 7000, 14_000, 1, 1)
         link = {"d_link": 500, "nid_bg": 4, "q_linkorientation": 1, "q_linkreaction": 1, "q_locacc": 5}
-        own = packet(site, 5, links=[link]), raw(16, f"01{section:015b}")
+        own = meaning_line.packet(site, 5, links=[link]), raw(16, f"01{section:015b}")
         place = next(index for index, row in enumerate(rows) if row.group == "Signal 4")
         made = [meaning_line.telegram(site, 0, 255, *own), meaning_line.telegram(site, 1, 255)]
         rows[place:place] = [Row(site.name, f"R{n}", 14_000 + 3 * n, "", n, form) for n, form in enumerate(made)]

@@ -27,7 +27,6 @@ from meaning_mistakes_of_groups import (
 from test_meaning import remarks, written
 
 from balisekit.engine.program import Program
-from balisekit.etcs.variables import Form
 from balisekit.rules import checking, meaning
 from balisekit.rules.line import Line as LineOfTable
 from balisekit.rules.rule import ALL, Options
@@ -455,11 +454,11 @@ def test_e6_leaves_out_equal_packets(program: Program, tmp_path: Path) -> None:
         ),
     ],
 )
-def test_e6_of_authorities(program: Program, tmp_path: Path, further: List[Form], words: List[str]) -> None:
+def test_e6_of_authorities(program: Program, tmp_path: Path, further: List[Any], words: List[str]) -> None:
     """A message 3 has exactly one packet 15 and no packet 12. Equal ones and those of the other direction count too."""
     authority: Any = {"q_scale": 1, "end_speed": 0, "end_timeout": 1023, "sections": [], "l_endsection": 900}
     level: Any = {"q_scale": 1, "elements": [{"d_gradient": 0, "q_gdir": 1, "g_a": 255}]}
-    others = [{"q_dir": 0, **(level if each["nid_packet"] == 21 else authority), **dict(each)} for each in further]
+    others = [{"q_dir": 0, **(level if each["nid_packet"] == 21 else authority), **each} for each in further]
     form: Any = {"nid_message": 3, "t_train": 1, "m_ack": 0, "nid_c": 352, "nid_bg": 1}
     (made,) = program.encode([{**form, "packets": [{"nid_packet": 15, "q_dir": 1, **authority}, *others]}], radio=True)
     path = tmp_path / "m.txt"

@@ -8,7 +8,7 @@ The rule rests on SUBSET-026, 3.12.1 and 7.4.2.
   the other one, and no packet may have both.
 - A change to one traction system and a level crossing with one NID_LX are compared up to 2 km.
 - Places and lengths may differ by `--tolerance` (default 1 m) and rounding.
-- The most frequent place counts as right.
+- The place that most groups give counts as right.
 - A group within the condition might send only the rest of it. Such a packet has the distance 0, and it agrees if the
   end of the condition is the same.
 
@@ -35,7 +35,7 @@ from __future__ import annotations
 
 from collections import Counter
 from decimal import Decimal
-from typing import AbstractSet, Iterator, List, Sequence
+from typing import AbstractSet, Dict, Iterator, List, Sequence, Set, Tuple
 
 from balisekit.etcs.packets import packet_name
 from balisekit.etcs.raw_layouts import layout_of
@@ -81,26 +81,23 @@ def _is_trusted(number: int, options: Options) -> bool:
 
 
 def _compare(line: Line, options: Options, some: Sequence[Condition], near: int) -> Iterator[Remark]:
-    """Those that differ from the most frequent one, if no packet has both."""
-    counts = Counter(each.says for each in some)
+    """Those that differ from what most groups say, if no packet has both. Of two that differ one is reported."""
+    firsts: Dict[Tuple[int, int], Condition] = {}
+    groups: Dict[Tuple[int, int], Set[int]] = {}
+    packets: Dict[int, Set[Tuple[int, int]]] = {}
     for each in some:
-        others = [one for one in some if one.packet is not each.packet and abs(one.place - each.place) <= near]
-        agreeing = any(_agree(line, options, each, one) for one in others)
-        usual = max(others, key=lambda one: counts[one.says], default=None)
-        if usual is None or agreeing or counts[usual.says] < counts[each.says] or _has(some, each, usual):
-            continue
-        if counts[usual.says] == counts[each.says] and some.index(usual) > some.index(each):
-            continue  # of two that differ one is reported
-        yield _remark(line, each, usual)
-
-
-def _has(some: Sequence[Condition], one: Condition, other: Condition) -> bool:
-    """Whether any packet has both: then these are two conditions."""
-    return any(
-        first.packet is second.packet and first.says == one.says and second.says == other.says
-        for first in some
-        for second in some
-    )
+        firsts.setdefault(each.says, each)
+        groups.setdefault(each.says, set()).add(id(each.passage.group or each.passage.message))
+        packets.setdefault(id(each.packet), set()).add(each.says)
+    together = {frozenset(own) for own in packets.values()}
+    order = {says: (-len(groups[says]), place) for place, says in enumerate(firsts)}
+    for each in some:
+        better = [one for one in firsts.values() if order[one.says] < order[each.says]]
+        better = [one for one in better if abs(one.place - each.place) <= near]
+        usual = min(better, key=lambda one: order[one.says], default=None)
+        if usual and not _agree(line, options, each, usual):
+            if not any({each.says, usual.says} <= own for own in together):
+                yield _remark(line, each, usual)
 
 
 def _agree(line: Line, options: Options, one: Condition, other: Condition) -> bool:

@@ -8,8 +8,8 @@ rule rests on SUBSET-026, 3.8.
   either direction is enough.
 - An aspect might also have such a packet for the wrong direction. It is reported if it is the only one with the packet
   for that direction, and at least two others have it only for the other direction.
-- A proceed aspect is also reported if it is the only one without a packet 39, 40, 51, 65, 67 to 71, 88, 138 or 139, and
-  two other aspects have it. The packets 5 and authorities must show that it leads to the end of one of these aspects.
+- Track conditions are the packets 39, 40, 51, 65, 67 to 71, 88, 138 and 139. The only proceed aspect without one is
+  also reported, if two other aspects have it. It must lead to the end of one of these aspects, on the same route.
 - A stop aspect has a packet 12 with V_MAIN 0 that does not follow a packet 136. It is reported if it has no packet 137,
   and at least four of five stop aspects of the table have one with "stop". The table must have at least five stop
   aspects for this.

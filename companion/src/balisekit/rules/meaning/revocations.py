@@ -10,6 +10,7 @@ from balisekit.rules.meaning.sent import Fault, kmh, located, remark, sent, spee
 from balisekit.rules.passages import GroupData
 from balisekit.rules.rule import Remark
 from balisekit.rules.telegrams import SPEEDS, Packet
+from balisekit.tables.names import rows_words
 
 RESTRICTION, REVOCATION, NOT_REVOCABLE = 65, 66, 255
 """NID_PACKET of both packets, and the NID_TSR without an identity."""
@@ -51,13 +52,17 @@ def without_restriction(decoded: Decoded) -> Iterator[Remark]:
     for owner, packet in ordered:
         ways.setdefault(_number(packet), set()).update(_ways(owner, packet))
     facts = [counted(f"{origin(located(*each))} {_number(each[1])} {_ways(*each)}" for each in ordered)]
-    for owner, packet in sent(decoded, REVOCATION):
-        if "nid_tsr" in packet.form:
-            words = _fault(owner, packet, ordered, ways)
-            if words:
-                values = {"nid_tsr": Decimal(_number(packet))}
-                made = remark("E22", located(owner, packet), [Fault(words, values, [("nid_tsr", None)])])
-                yield made._replace(facts=facts)
+    revocations = [(owner, packet) for owner, packet in sent(decoded, REVOCATION) if "nid_tsr" in packet.form]
+    revoked = {_number(packet) for _, packet in revocations}
+    left = [located(*each) for each in ordered if _number(each[1]) not in revoked]
+    for owner, packet in revocations:
+        words = _fault(owner, packet, ordered, ways)
+        if words:
+            rows = [where.row.number for where in left if where.row and len(left) == 1 and _number(packet) not in ways]
+            words += f", and nothing revokes the one in {rows_words(rows)}" if rows else ""
+            values = {"nid_tsr": Decimal(_number(packet))}
+            made = remark("E22", located(owner, packet), [Fault(words, values, [("nid_tsr", None)])])
+            yield made._replace(facts=facts, compared=left if rows else ())
 
 
 def _fault(owner: Owner, packet: Packet, ordered: List[Tuple[Owner, Packet]], ways: Dict[int, Ways]) -> str:
