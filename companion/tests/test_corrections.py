@@ -12,7 +12,7 @@ import pytest
 from conftest import Run
 from meaning_line import Line, Row
 from meaning_mistakes import form_of
-from test_added_rules import rule
+from test_added_rules import rule as rule_file
 from test_meaning import Change, written
 
 from balisekit.engine.program import Program
@@ -194,7 +194,7 @@ def test_identities_and_aspects(
 def test_added_rules_see_no_correction(run: Run, program: Program, tmp_path: Path) -> None:
     """Corrections are tried out with balisekit's own rules: a rule of users is applied once, and cannot fail there."""
     path = written(program, tmp_path / "t.csv", Line(), moved("Signal 9", 270))
-    file = rule(tmp_path, answer="yield print('seen')")
+    file = rule_file(tmp_path, answer="yield print('seen')")
     status, out, err = run("check", path, "--rules-from", file)
     assert status == 1 and any("at km 22.000 they would agree" in each for each in out)
     assert err.count("seen") == len(path.read_text("utf-8").splitlines()) - 1

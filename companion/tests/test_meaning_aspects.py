@@ -8,6 +8,7 @@ from pathlib import Path
 from typing import Any, List, Optional, Sequence, Tuple
 
 import pytest
+from conftest import Run
 from meaning_line import Line, Row, change
 from meaning_mistakes import BOTH, RESTRICTED, restriction, with_packet
 from meaning_mistakes_of_groups import (

@@ -7,7 +7,7 @@ from typing import Callable, List
 import pytest
 from conftest import Run
 from meaning_line import Row
-from meaning_mistakes import condition, on_sight, session, with_packet
+from meaning_mistakes import on_sight, session, with_packet
 from meaning_mistakes_of_groups import FIXED, RED, SHORT, YELLOW, raw
 from test_meaning import written
 

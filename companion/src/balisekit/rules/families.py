@@ -167,7 +167,8 @@ class Outcome:
 
     @cached_property
     def _identities(self) -> Mapping[str, Identity]:
-        return identities(self.checked, [entry.group for entry in self.entries if entry.group])
+        every = [each for entry in self.entries for each in (entry, *entry.folded)]
+        return identities(self.checked, [entry.group for entry in every if entry.group])
 
     def identity(self, entry: Entry) -> Optional[Identity]:
         """NID_C and NID_BG of the group of an entry, if they are known."""
@@ -303,8 +304,8 @@ def _rows_of_aspect(place: Place) -> Iterator[int]:
 def _judged_again(checked: Checked, asked: Sequence[Family], options: Options, table: Table) -> Iterator[Answer]:
     """What the same rules find of a corrected table, whatever was accepted: those first that most corrections break.
 
-    Nobody asks for the rest of an answer that has a new entry. The program's findings may rest on remarks. Added rules see no
-    corrected table.
+    Nobody asks for the rest of an answer that has a new entry. The program's findings may rest on remarks. Added rules
+    see no corrected table.
     """
     made = check(checked.program, table, checked.messages, table.reading.by_position)
     yield Answer(refused=_refused(made))

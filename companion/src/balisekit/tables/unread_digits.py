@@ -15,7 +15,7 @@ from balisekit.tables.cells import digits, kind_and_text
 LEAST_DIGITS, LEAST_LETTERS, LEAST_RUN = 40, 4, 13
 """How many digits could be a telegram: in groups, if so many are letters; or in one run, if one of them is a letter."""
 CHECKSUM = re.compile(r"(?<![^\W_])(?:0[xX])?([0-9A-Fa-f]{32}|[0-9A-Fa-f]{40}|(?:[0-9A-Fa-f]{32}){2,4})(?![^\W_])")
-"""An MD5, SHA-1, SHA-256, SHA-384 or SHA-512, unless it begins with the header of a telegram and fill or more follows."""
+"""An MD5, SHA-1, SHA-256, SHA-384 or SHA-512, unless it looks like a telegram with fill, or like a part of one."""
 VERSIONS, LEAST_REST, FILL = ("a0", "a1", "90", "91"), 10, re.compile("(?:[Ff]{4,}|0{4,})$")
 """With what a telegram begins, how many digits with letters can be the rest of one, and what fills one up."""
 MOST_CHECKSUMS = 4
@@ -99,7 +99,7 @@ def _without_names(text: str) -> str:
 
 
 def _begins_telegram(value: str, rest: str) -> bool:
-    """Whether digits with the length of a checksum are those of a telegram with fill, or the first ones of a longer one.
+    """Whether digits with the length of a checksum are those of a telegram with fill, or the first ones of one.
 
     One in 300 random checksums begins with a header, so fill or other digits must follow.
     """
