@@ -84,7 +84,7 @@ def find(line: Line, options: Options) -> Result:
     rare = sum(len(own) for some in (cases, few) for name, own in some.items() if name not in known)
     parts: Dict[Tuple[str, Tuple[int, str]], List[Part]] = {}
     speeds = (each for each in odd_speeds(known) if each.sent * 5 <= options.greatest_speed)
-    ordered = _ordered_elsewhere(line)
+    ordered = stops_without_order(line.decoded).aspects
     for part in (
         *_lacking(known, few, ordered),
         *map(_of_value, (*odd_values(cases), *contrary_orders(cases), *speeds)),
@@ -125,11 +125,6 @@ def _is_of_aspect(packet: Packet) -> bool:
     """Whether a packet is compared: one of the balise with the aspects, and no linking."""
     is_fixed = packet.row is None or packet.row.aspect in ("", "*")
     return not is_fixed and packet.number != LINKING and packet.number not in SAYS_NOTHING
-
-
-def _ordered_elsewhere(line: Line) -> Collection[Tuple[int, str]]:
-    """The groups and aspects in which the rule on the stop aspects of the table misses a packet 137."""
-    return {(id(each.group), each.aspect) for each in stops_without_order(line.decoded).lacking}
 
 
 def _is_said_elsewhere(case: Case, number: int, ordered: Collection[Tuple[int, str]]) -> bool:

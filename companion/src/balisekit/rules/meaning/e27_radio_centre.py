@@ -93,13 +93,11 @@ def find(line: Line, options: Options) -> Result:
         *_unlike(calls, lambda each: each.digits, lambda each: each.centre, _centre_words),
         *borders(line.decoded, options),
     ]
-    left = Counter(call.left for call in calls if call.left) + passed_over(line.decoded, _is_transition)
+    left = Counter(call.left for call in calls if call.left) + passed_over(
+        line.decoded, lambda each: each.number == TRANSITION
+    )
     left[NOT_DECODED] = sum("nid_radio" not in packet.form for _, packet in sent(line.decoded, SESSION, TRANSITION))
     return Result(merged(found), len(calls) - sum(bool(call.left) for call in calls), +left, is_optional=True)
-
-
-def _is_transition(packet: Packet) -> bool:
-    return packet.number == TRANSITION
 
 
 def _wrong_digits(calls: Sequence[Call]) -> Iterator[Remark]:

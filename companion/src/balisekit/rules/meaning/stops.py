@@ -1,7 +1,7 @@
 """The stop aspects of a table, and which of them lack the order to stop in staff responsible mode: for E8 and E24."""
 from __future__ import annotations
 
-from typing import Dict, List, NamedTuple, Sequence, Tuple
+from typing import Collection, Dict, List, NamedTuple, Sequence, Tuple
 
 from balisekit.rules.decoded import Decoded
 from balisekit.rules.meaning.siblings import AUTHORITY
@@ -20,6 +20,11 @@ class Stops(NamedTuple):
     """Those with "stop"."""
     lacking: Sequence[Passage]
     """Those without a packet 137. None if fewer than four of five stop aspects have it."""
+
+    @property
+    def aspects(self) -> Collection[Tuple[int, str]]:
+        """The groups and aspects that lack it."""
+        return {(id(each.group), each.aspect) for each in self.lacking}
 
 
 def stopping(decoded: Decoded) -> Sequence[Passage]:
