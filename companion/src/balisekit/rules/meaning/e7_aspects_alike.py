@@ -73,6 +73,7 @@ class Alike(NamedTuple):
 def find(line: Line, options: Options) -> Result:
     """Looks at the aspects of each group."""
     alike = [each for data in line.decoded.controlled for each in _alike(data)]
+    stops = [each for each in alike if not each.speeds]
     ends: Dict[Tuple[int, int], List[End]] = {}
     for end in ends_of(line.decoded) if alike else ():
         ends.setdefault((id(end.passage.group), end.packet.end), []).append(end)
@@ -80,15 +81,8 @@ def find(line: Line, options: Options) -> Result:
     last = [each for each, own in moving if own and all(ends_the_line(line.decoded, end) for end in own)]
     least = [*last, *(each for each, own in moving if not own and _is_infill_of(line.decoded, each, last))]
     found = [_remark(each, Urgency.RULE_ONLY if each in least else None) for each, _ in moving]
-    groups = line.decoded.controlled
-    unread = sum(any(row.number not in data.telegrams for row in data.group.group.rows()) for data in groups)
-    return Result(
-        found,
-        len(groups) - unread,
-        {REFUSED: unread},
-        list(_note([each for each in alike if not each.speeds])),
-        is_optional=True,
-    )
+    unread = sum(bool(each.group.unread) for each in line.decoded.controlled)
+    return Result(found, len(line.decoded.controlled) - unread, {REFUSED: unread}, list(_note(stops)), is_optional=True)
 
 
 def _alike(data: GroupData) -> Iterator[Alike]:
