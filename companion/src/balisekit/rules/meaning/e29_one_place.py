@@ -33,16 +33,19 @@ How sure. 87 %, by practice and memory of the standard.
 """
 from __future__ import annotations
 
+from collections import Counter
 from decimal import Decimal
-from typing import Dict, Iterator, List, Sequence, Set, Tuple
+from typing import AbstractSet, Dict, Iterator, List, Sequence, Set, Tuple
 
 from balisekit.etcs.packets import packet_name
 from balisekit.etcs.raw_layouts import layout_of
+from balisekit.etcs.raw_packets import content_of
 from balisekit.etcs.variables import metres
 from balisekit.rules.decoded import tolerance_of_lengths
 from balisekit.rules.line import Line
 from balisekit.rules.meaning.along import parts, passed_over
 from balisekit.rules.meaning.conditions import LAYOUTS, Condition, conditions_of
+from balisekit.rules.meaning.sent import sent
 from balisekit.rules.meaning.words import at_place, merged, source
 from balisekit.rules.rule import Options, Remark, Result, Rule, Urgency
 
@@ -58,7 +61,17 @@ def find(line: Line, options: Options) -> Result:
         for part in parts(sorted(some, key=lambda each: each.place), near):
             found += _compare(line, options, part, near)
     lacks = passed_over(line.decoded, lambda packet: packet.number in trusted)
-    return Result.of_places(merged(found), looked_at, lacks)
+    return Result.of_places(merged(found), looked_at, lacks, +Counter(_left(line, trusted)))
+
+
+def _left(line: Line, trusted: AbstractSet[int]) -> Iterator[str]:
+    """Why conditions are not compared, of which the kilometres are known: once for each packet."""
+    for _, packet in sent(line.decoded, *LAYOUTS):
+        content = content_of(packet.form)
+        if packet.number not in trusted:
+            yield "layout not sure"
+        elif content is None or content.fault:
+            yield "not decoded"
 
 
 def _is_trusted(number: int, options: Options) -> bool:
