@@ -275,7 +275,8 @@ class Program:
             import platform  # (slow, and only needed here)
 
             here = f"{platform.machine()} with {' '.join(platform.libc_ver()).strip() or 'another C library'}"
-            needs = f"it needs x86-64-v2 and glibc {self.about.get('glibc')} or later"
+            processor = self.about.get("processor", "x86-64-v2")
+            needs = f"it needs {processor} and glibc {self.about.get('glibc')} or later"
             what = f"does not start here: {needs}, and this is {here}"
         said = run.errors[:1000].decode("utf-8", "backslashreplace").strip().split("\n")[0]
         return NoAnswer(f"{self.path} {what}" + (f": {said}" if said else ""))
