@@ -12,6 +12,7 @@ from urllib.parse import unquote
 
 import pytest
 
+import targets
 from runner import TOP, program
 from test_recipes import FILES, shown
 from tiny import attempt, sh, write
@@ -26,7 +27,7 @@ NEEDS = {"git": "git", "help2man": "help2man", "dpkg-deb": "dpkg",
 TOOLS = {"help": 'case $* in *.py" --"* | "-I -c "*) exec /usr/bin/python3 "$@" ;; esac\n'}
 NO_RULES = ("refused", "not-judged", "not-compared", "entry-at-fault")  # (results of SARIF that have no page)
 INSTALL = "-m pip install -q --no-index --no-deps --no-compile --disable-pip-version-check {}"
-HERE, ARM = "*-manylinux_2_34_x86_64.whl", "*-manylinux_2_17_aarch64.whl"
+HERE, ARM, ANY = "*-manylinux_2_34_x86_64.whl", "*-manylinux_2_17_aarch64.whl", "*-none-any.whl"
 # A root of Debian for aarch64 with python3, whose programs qemu runs (docs/contributing/testing.md).
 ARM_ROOT = os.environ.get("BALISECHECK_ARM_ROOT")
 # It counts how many processes a check starts.
@@ -143,7 +144,8 @@ def test_files(made):
     others = [f"balisecheck-{VERSION}-{it}" for it in (
         "aarch64-linux-untested.tar.gz", "x86_64-windows-untested.zip")] if has_others(made) else []
     others += [f"balisecheck-{VERSION}-untested.tgz",
-               f"balisekit-{VERSION}-0untested-py3-none-manylinux_2_17_aarch64.whl"] if has_others(made) else []
+               *(f"balisekit-{VERSION}-0untested-py3-none-{it}.whl" for it in ("manylinux_2_17_aarch64", "any"))
+               ] if has_others(made) else []
     assert sh(made.parent, "diff -r made again") == ""
     assert attempt(TOP, f"scripts/release.sh --try '{made}'") == (1, f"release: {made} is not empty\n")
     assert sorted(os.listdir(made)) == sorted([
@@ -487,6 +489,24 @@ def test_wheel_of_arm_by_qemu(wheel_of_arm, tmp_path):
         for words, opening in (("", library), (named, "not a released program: it was named by --program")):
             status, said = attempt(tmp_path, f"{kit} {table} {words}")
             assert opening in said and (status, without_opening(said)) == (wanted[0], without_opening(wanted[1]))
+
+
+def test_wheel_of_any_system(made, tmp_path):
+    """It has the module in place of program and library, and answers by node."""
+    if not has_others(made):
+        pytest.skip("the wheel for any system (scripts/targets, which needs the toolchain)")
+    sh(made, f"python3 {INSTALL.format(ANY)} --target '{tmp_path}/it'")
+    package, stored = tmp_path / "it/balisekit", made.with_name("tree") / STORED / "ABOUT"
+    about, whole = (dict(line.split(" ", 1) for line in text_of(it).splitlines()) for it in (package / "ABOUT", stored))
+    assert about.pop("module") == sum_of(package / "balisecheck.mjs") == whole["wasm64/balisecheck.mjs"]
+    assert about == {word: whole[word] for word in ("version", "commit", "kit", "sources")}
+    assert os.listdir(tmp_path / "it/bin") == ["balisekit"] and not (package / "libbalisecheck.so.0").exists()
+    targets.need("node")
+    table, path = f"'{TOP}/examples/table/line.csv'", "PATH=/usr/bin:/bin"
+    status, said = attempt(tmp_path, f"{path} it/bin/balisekit check {table}")
+    wanted = attempt(tmp_path, f"'{TOP}/balisekit' check {table}")
+    assert (status, without_opening(said)) == (wanted[0], without_opening(wanted[1]))
+    assert f"balisecheck.mjs {VERSION}, SHA-256 {sum_of(package / 'balisecheck.mjs')}: the module of this balisekit" in said
 
 
 def test_components(made):
