@@ -167,7 +167,7 @@ def possible(cells: Cells, known: Known, joined: Set[int]) -> Set[Tuple[Optional
         is_own = place.sheet == known.sheet
         if is_telegram(text) or is_own and (place.row <= known.heading or place.column == known.column):
             continue
-        if could_hold(text) or re.search(LARGE, text):
+        if could_hold(text) or re.search(LARGE, without_checksums(text)):
             found.add((place.sheet, place.row))
         if not is_own or place.column in joined:
             rows.setdefault((place.sheet, place.row), []).append(text)

@@ -280,8 +280,8 @@ def test_parts_that_come_and_go() -> None:
     packet = link_tables.authority()[0]
     more = {**packet, "overlap": {"d_startol": 300, "t_ol": 60, "d_ol": 200, "v_releaseol": 126}}
     assert changes([packet], [more]) == [
-        "packet 12 (movement authority of level 1, nominal), first in the telegram  overlap  added: D_STARTOL 300 m [300]  T_OL 60 s [60]  "
-        "D_OL 200 m [200]  V_RELEASEOL calculated on board [126]"
+        "packet 12 (movement authority of level 1, nominal), first in the telegram  overlap  added: D_STARTOL 300 m [300]  "
+        "T_OL 60 s [60]  D_OL 200 m [200]  V_RELEASEOL calculated on board [126]"
     ]
     assert "overlap  removed: " in changes([more], [packet])[0]
     link = link_tables.linking(1, {**link_tables.link(1, 2, 1), "nid_c": 7})
@@ -299,7 +299,8 @@ def test_packets_are_paired_by_number_direction_and_order() -> None:
     cover = {"nid_packet": 0, "nid_vbcmk": 1}
     assert changes([one, cover], [cover, one]) == ["the packets stand in another order"]
     assert changes([one], [{**one, "q_dir": 2}]) == [
-        "packet 68 (track condition, both directions, balisekit's own layout), first in the telegram  Q_DIR nominal [1] -> both directions [2]"
+        "packet 68 (track condition, both directions, balisekit's own layout), first in the telegram  "
+        "Q_DIR nominal [1] -> both directions [2]"
     ]
 
 
@@ -383,7 +384,7 @@ def test_the_page(run: Run, table: Write, tmp_path: Path) -> None:
     status, out, _ = run("diff", LINKS / "line.csv", new, "--html", page)
     said = page.read_text("utf-8")
     assert status == 1 and "<script" not in said and "\u202e" not in said and "&lt;script&gt;" in said
-    assert "<tr><td>packet 0 (linking, nominal)  link 0</td><td>D_LINK</td>" in said
+    assert "<tr><td>packet 5 (linking, nominal), first in the telegram  link 0</td><td>D_LINK</td>" in said
     assert "1010 m [1010]" in said and out[-1] in said and "not proved" in said
     assert not re.search(r"https?://|<img|<link", said)
     if shutil.which("chromium") is None:

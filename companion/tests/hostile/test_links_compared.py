@@ -39,10 +39,10 @@ KMS = ["0", "1", "2", "3", "4", "5"]
             KMS,
             "",
             5000,
-            2,
-            ["INCOMPLETE: L3 compared none of 5 links (no direction", "compared: 5 links (L1, L2), 0 of 5 links (L3)"],
+            1,
+            ["links: 9 found (L2 5, L3 4)", "compared: 5 links (L1, L2), 4 links (L3)"],
         ),
-        (2, KMS, "", 1000, 2, ["INCOMPLETE: L3 compared none of 5 links", "none found of L1 to L9"]),
+        (2, KMS, "", 1000, 1, ["links: 4 found (L3 4)", "compared: 5 links (L1, L2), 4 links (L3)"]),
         (1, KMS, "", 5000, 1, ["links: 5 found (L2 5) in 6 groups", "compared: 5 links (L1, L2), 0 links (L3)"]),
         (
             1,
@@ -64,7 +64,7 @@ KMS = ["0", "1", "2", "3", "4", "5"]
         (1, ["0", "1", "", "", "", ""], "rising", 1000, 0, ["1 of 5 links (L2)", "1 of 5 pairs (L9)"]),
         (1, ["0"], "", 5000, 0, ["links: none found of L1 to L9 in 1 group;", "compared: 0 links (L1, L2, L3)"]),
     ],
-    ids=["direction", "none", "none-right", "single", "single-right", "down", "one-km", "two-km", "no-links"],
+    ids=["direction", "by-links", "by-links-right", "single", "single-right", "down", "one-km", "two-km", "no-links"],
 )
 def test_what_was_not_compared(
     program: Program,

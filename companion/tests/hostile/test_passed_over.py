@@ -72,17 +72,24 @@ def test_a_page_names_them(run: Run, table: Write, tmp_path: Path) -> None:
     assert CASES[0]["text"] in text and "Signal 3: no kilometre, so E12 to E19 and E22" in text
 
 
-LINKS: Sequence[Tuple[Dict[str, str], str]] = (
-    ({"column": "km", "rows": "Signal 3", "value": ""}, "it has no kilometre: L2 and L9 do not look at it"),
-    ({"column": "km", "rows": "second balises", "value": ""}, "its direction along the kilometres is not known: L3"),
+LINKS: Sequence[Tuple[Sequence[str], Sequence[str], str]] = (
+    (
+        changed({"column": "km", "rows": "Signal 3", "value": ""}),
+        ["Signal 3"],
+        "it has no kilometre: L2 and L9 do not look at it",
+    ),
+    (
+        ["group,km,telegram", f"A,1.000,{ALONE}", f"B,2.000,{OTHER}"],
+        ["A", "B"],
+        "its direction along the kilometres is not known: L3",
+    ),
 )
 
 
-@pytest.mark.parametrize("case, why", LINKS)
-def test_what_rules_l_pass_over(case: Dict[str, str], why: str, run: Run, table: Write) -> None:
+@pytest.mark.parametrize("lines, wanted, why", LINKS, ids=["no km", "no direction"])
+def test_what_rules_l_pass_over(lines: Sequence[str], wanted: Sequence[str], why: str, run: Run, table: Write) -> None:
     """A case that L looks at only in part is none that passed."""
-    _, out, answer, junit, sarif = outputs(run, table(*changed(case)), "--only", "F,L")
-    wanted = [case["rows"]] if case["rows"] in GROUPS else GROUPS
+    _, out, answer, junit, sarif = outputs(run, table(*lines), "--only", "F,L")
     assert [each["group"] for each in answer["passed_over"]] == wanted
     reasons = skipped(junit.findall("testsuite")[-1])
     assert list(reasons) == wanted and all(f"passed over: {why}" in reason for reason in reasons.values())
@@ -91,13 +98,14 @@ def test_what_rules_l_pass_over(case: Dict[str, str], why: str, run: Run, table:
 
 
 def test_a_message_whose_group_is_not_in_the_table(run: Run, table: Write) -> None:
-    """Its NID_LRBG is the group of ALONE."""
+    """Its NID_LRBG is the group of ALONE. E31 reports that, so JUnit has a failure and not a case that is skipped."""
     path = table("group,km,nominal,telegram", f"B,2.000,rising,{OTHER}")
     messages = table(f"{MESSAGE};far away", name="messages.txt")
     _, out, answer, junit, _ = outputs(run, path, "--messages", messages, "--only", "F,E")
     assert [(each["message"], each["group"]) for each in answer["passed_over"]] == [(1, None)]
     why = "its group is not in the table, so E12 to E19 and E22 compare no place of it"
-    assert skipped(junit.findall("testsuite")[-1]) == {"line 1  far away": f"passed over: {why}"}
+    (case,) = (each for each in junit.findall("testsuite")[-1] if each.get("name") == "line 1  far away")
+    assert "E31" in (getattr(case.find("failure"), "text", None) or "")
     assert f"note: line 1  far away: {why}" in out
 
 

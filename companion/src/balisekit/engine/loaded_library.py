@@ -57,6 +57,11 @@ class LoadedLibrary(Program):
         while done < len(lines):
             part = lines[done : done + PART]
             call = self._library.call(words, b"".join(part))
+            read = list(call.lines()) if call.status == 0 else ()
+            if len(read) == len(part):  # (none of them is a refusal, so nothing is to be counted)
+                yield from read
+                done += len(part)
+                continue
             for each in answers(call, " ".join(words), len(part)):
                 done += 1
                 if isinstance(each, Refusal):

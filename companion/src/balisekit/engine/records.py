@@ -323,8 +323,7 @@ def parts(line: str) -> Tuple[Header, str]:
     identity, _, rest = rest.partition(',"packets":[')
     packets, _, after = rest.rpartition("]")
     nid_bg, _, nid_c = identity.partition(',"nid_c":')
-    values = *_values(before), int(nid_bg), int(nid_c), *_values(after)
-    return Header(*values), packets
+    return Header._make((*_values(before), int(nid_bg), int(nid_c), *_values(after))), packets
 
 
 def packet_texts(packets: str) -> List[str]:

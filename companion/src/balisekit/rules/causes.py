@@ -9,6 +9,7 @@ from typing import Dict, Iterable, Iterator, List, Mapping, NamedTuple, Optional
 
 from balisekit.engine.program import Report
 from balisekit.rules.checking import Checked, Place, document
+from balisekit.rules.location import Identity
 from balisekit.rules.statements.profiles import neither_profile
 from balisekit.rules.statements.scene import Balise, Statement
 from balisekit.tables.grouping import by_position
@@ -20,7 +21,6 @@ OF_HEADERS = frozenset((1, 2, 3, 4, 5, 6, 7, 8, 15, 16))
 OF_ORDER = frozenset((4, 5, 15, 16))
 """The rules beside F1 that balises in a wrong order may break."""
 NO_GRADIENT, NO_SPEED_PROFILE = 10, 12
-Identity = Tuple[int, int]
 
 
 class Cause(NamedTuple):

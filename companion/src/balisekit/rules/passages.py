@@ -111,7 +111,7 @@ class GroupData:
 
     def __post_init__(self) -> None:
         own = {number: holding(telegram.packets) for number, telegram in self.telegrams.items() if telegram.packets}
-        self.group.says = tuple(any(map(_says, packets)) for packets in zip(*own.values())) or (False, False)
+        self.group.says = tuple(any(map(_says, packets)) for packets in zip(*own.values())) if own else (False, False)
         self.passages = tuple(self._passages(own)) if own else ()
 
     @property

@@ -6,10 +6,10 @@ that they have, or one of its values is another one. The rule rests on SUBSET-02
   aspect of this name. Infill groups and groups with a refused telegram do not count.
 - A packet 12, 21, 27 or 80 lacks if at least four of five signals have it. Any other packet lacks if all other signals
   have it in the balise with the aspects. Packet 5 is not compared.
-- T_OL, D_STARTOL, V_RELEASEOL, V_RELEASEDP, T_SECTIONTIMER, T_ENDTIMER, M_MAMODE and V_MAMODE are compared if at least
-  four other signals have them. All of these must have the same value, and no other aspect of the table may have the
-  value of this one. If no other signal has the D_OL or D_DP beside the value, the value is not compared. Neither is a
-  D_STARTOL that is equal to L_ENDSECTION.
+- T_OL, D_STARTOL, V_RELEASEOL, V_RELEASEDP, T_SECTIONTIMER, D_SECTIONTIMERSTOPLOC, T_ENDTIMER, D_ENDTIMERSTARTLOC,
+  M_MAMODE and V_MAMODE are compared if at least four other signals have them. All of these must have the same value,
+  and no other aspect of the table may have the value of this one. If no other signal has the D_OL or D_DP beside the
+  value, the value is not compared. Neither is a D_STARTOL that is equal to L_ENDSECTION.
 - V_MAIN is compared if at all other signals it is the greatest V_STATIC of the aspect, or else the same speed. A
   V_MAIN that is too low is only reported if the signal has another proceed aspect whose V_MAIN is as usual. One that
   differs from V_STATIC only, and that another aspect of the signal has too, is not reported. Neither is one that E2
@@ -80,7 +80,7 @@ def find(line: Line, options: Options) -> Result:
     cases = cases_of(line.decoded)
     known = {name: own for name, own in cases.items() if signals_of(own) >= LEAST}
     rare = sum(len(own) for name, own in cases.items() if name not in known)
-    parts: Dict[Tuple[str, Tuple[int, str]], List[Part]] = {}
+    parts: Dict[Tuple[str, Tuple[int, str]], List[Unlike]] = {}
     speeds = (each for each in odd_speeds(known) if each.sent * 5 <= options.greatest_speed)
     for part in (*_lacking(known), *map(_of_value, (*odd_values(cases), *contrary_orders(cases), *speeds))):
         parts.setdefault((part.case.aspect, part.case.signal), []).append(part)
@@ -89,8 +89,8 @@ def find(line: Line, options: Options) -> Result:
     return Result(found, looked_at, {RARE: rare} if rare else {}, is_optional=True)
 
 
-class Part(NamedTuple):
-    """A part of a remark."""
+class Unlike(NamedTuple):
+    """What an aspect lacks, or a value that differs: a part of a remark."""
 
     case: Case
     words: str
@@ -98,7 +98,7 @@ class Part(NamedTuple):
     blamed: Sequence[Field] = ()
 
 
-def _lacking(cases: Cases) -> Iterator[Part]:
+def _lacking(cases: Cases) -> Iterator[Unlike]:
     """The packets that an aspect lacks, together those that as many other signals have."""
     for own in cases.values():
         without: Dict[Tuple[int, ...], List[int]] = {}
@@ -113,7 +113,7 @@ def _lacking(cases: Cases) -> Iterator[Part]:
             names = [f"{number} ({packet_name(number)})" for number in numbers]
             packets = f"packet{'s' if len(names) > 1 else ''} {', '.join(names)}"
             words = f"it lacks {packets} in {own[place].direction} direction, which {count} other signals have"
-            yield Part(own[place], words, {"packets": Decimal(len(numbers))})
+            yield Unlike(own[place], words, {"packets": Decimal(len(numbers))})
 
 
 def _is_of_aspect(packet: Packet) -> bool:
@@ -141,15 +141,15 @@ def _told(data: GroupData) -> FrozenSet[Tuple[str, str]]:
     return frozenset({*named, *(key[:2] for key in lacking_in(rest, moving))} if len(said) > 2 else ())
 
 
-def _of_value(odd: Odd) -> Part:
+def _of_value(odd: Odd) -> Unlike:
     """A value that differs."""
     row, packet = odd.packet.row, odd.packet
     blamed = [(row.number, packet.place, odd.key, None)] if row else []
     values = {odd.key: Decimal(odd.sent), f"usual_{odd.key}": Decimal(odd.usual)}
-    return Part(odd.case, odd.words, values, blamed)
+    return Unlike(odd.case, odd.words, values, blamed)
 
 
-def _remark(parts: Sequence[Part], cases: Sequence[Case]) -> Remark:
+def _remark(parts: Sequence[Unlike], cases: Sequence[Case]) -> Remark:
     """One remark on an aspect."""
     case = parts[0].case
     rows = next(each.rows for each in case.data.group.group.aspects if each.name == case.aspect)

@@ -19,8 +19,8 @@ LEAST = 5
 KEYS: Mapping[str, Sequence[str]] = {
     "overlap": ("t_ol", "d_startol", "v_releaseol"),
     "danger_point": ("v_releasedp",),
-    "section_timer": ("t_sectiontimer",),
-    "end_timer": ("t_endtimer",),
+    "section_timer": ("t_sectiontimer", "d_sectiontimerstoploc"),
+    "end_timer": ("t_endtimer", "d_endtimerstartloc"),
     "elements": ("m_mamode", "v_mamode"),
 }
 """The parts of a packet 12 or 80 whose values are compared, and their keys."""
@@ -36,15 +36,14 @@ class Case(NamedTuple):
     aspect: str
     direction: str
     packets: Sequence[Packet]
+    signal: Tuple[int, str]
+    """Which signal it is of: a group in a direction."""
+    by_number: Mapping[int, Packet]
+    """The first packet with each NID_PACKET."""
 
     def first(self, number: int) -> Optional[Packet]:
         """The first packet with this number."""
-        return next((packet for packet in self.packets if packet.number == number), None)
-
-    @property
-    def signal(self) -> Tuple[int, str]:
-        """Which signal it is of: a group in a direction."""
-        return id(self.data), self.direction
+        return self.by_number.get(number)
 
     @property
     def speed(self) -> int:
@@ -131,7 +130,9 @@ def _of_group(data: GroupData) -> Iterator[Case]:
     if 2 * most >= len(names) and (len(own) == 1 or most == len(names)):
         for direction in own:
             for name in names:
-                yield Case(data, name, direction, said.get((name, direction), ()))
+                packets = said.get((name, direction), ())
+                by_number = {packet.number: packet for packet in reversed(packets)}
+                yield Case(data, name, direction, packets, (id(data), direction), by_number)
 
 
 def signals_of(cases: Sequence[Case]) -> int:
@@ -153,15 +154,17 @@ def lacking(cases: Sequence[Case], number: int) -> Sequence[Case]:
 
 def odd_values(cases: Cases) -> Iterator[Odd]:
     """The values of one signal that no other aspect of the table has, if all others of the name have the same one."""
-    by_part, places = _values_of(cases), _signals_of_lengths(cases)
+    by_part, alone = _values_of(cases), _lengths_of_one(cases)
     for (_, key), by_name in by_part.items():
-        compared = {name: [each for each in own if not _is_of_a_place(each, places)] for name, own in by_name.items()}
+        compared = {name: [each for each in own if not _is_of_a_place(each, alone)] for name, own in by_name.items()}
         for own in compared.values():
-            counts = Counter(each.compared for each in own)
-            usual = max(own, key=lambda each: counts[each.compared], default=None)
-            odd = [each for each in own if usual and each.compared != usual.compared]
-            if usual is None or signals_of([each.case for each in odd]) != 1:
+            numbers = [each.compared for each in own]
+            counts = Counter(numbers)
+            most = max(counts, key=counts.__getitem__, default=0)
+            odd = [each for each, number in zip(own, numbers) if number != most] if len(counts) > 1 else []
+            if signals_of([each.case for each in odd]) != 1:
                 continue
+            usual = own[numbers.index(most)]
             rest = signals_of([each.case for each in own]) - 1
             if rest >= LEAST - 1 and not _is_elsewhere(odd, compared):
                 for each in odd:
@@ -199,8 +202,8 @@ def _parts_of(case: Case) -> Iterator[Tuple[Packet, str, Any]]:
                 yield from ((packet, part, each) for each in (own if part == "elements" else [own]) or () if each)
 
 
-def _signals_of_lengths(cases: Cases) -> Mapping[Tuple[str, int], Set[Tuple[int, str]]]:
-    """The signals that have an overlap or danger point with each D_OL and D_DP in decimetres."""
+def _lengths_of_one(cases: Cases) -> Set[Tuple[str, int]]:
+    """The D_OL and D_DP, in decimetres, that the overlap or danger point of one signal only has."""
     found: Dict[Tuple[str, int], Set[Tuple[int, str]]] = {}
     for own in cases.values():
         for case in own:
@@ -209,15 +212,15 @@ def _signals_of_lengths(cases: Cases) -> Mapping[Tuple[str, int], Set[Tuple[int,
             for part, key in LENGTHS:
                 if packet and part in form:
                     found.setdefault((key, form[part][key] * packet.unit), set()).add(case.signal)
-    return found
+    return {length for length, signals in found.items() if len(signals) == 1}
 
 
-def _is_of_a_place(value: Value, places: Mapping[Tuple[str, int], Set[Tuple[int, str]]]) -> bool:
+def _is_of_a_place(value: Value, alone: Set[Tuple[str, int]]) -> bool:
     """Whether it is of an overlap or danger point with a length of its own, or a D_STARTOL that is the end section."""
     if value.key == "d_startol" and value.sent == value.packet.form["l_endsection"]:
         return True
-    lengths = [(key, value.parent[key] * value.packet.unit) for _, key in LENGTHS if key in value.parent]
-    return any(places[each] == {value.case.signal} for each in lengths)
+    own = ((key, value.parent[key] * value.packet.unit) for _, key in LENGTHS if key in value.parent)
+    return bool(alone) and not alone.isdisjoint(own)
 
 
 def contrary_orders(cases: Cases) -> Iterator[Odd]:
