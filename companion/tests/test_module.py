@@ -72,8 +72,9 @@ def test_documents(module: LoadedModule, program: Program) -> None:
         assert module.check(document) == program.check(document)
 
 
-def test_records(module: LoadedModule) -> None:
-    """A record, and the first fault of another."""
+def test_records(module: LoadedModule, monkeypatch: pytest.MonkeyPatch) -> None:
+    """A record, and the first fault of another. No variable makes node run anything else."""
+    monkeypatch.setenv("NODE_OPTIONS", "--require /no/file")
     its = Module(module.path)
     assert its.telegram(ALONE.encode()).status == 0 and its.message(b"z").status == 2
     fault = its.telegram(ALONE[:-1].encode() + b"1").fault

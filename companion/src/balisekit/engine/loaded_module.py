@@ -4,6 +4,7 @@ It contains the library for C. One process of node answers all calls, one after 
 """
 from __future__ import annotations
 
+import os
 import shutil
 from dataclasses import dataclass
 from functools import lru_cache
@@ -58,9 +59,11 @@ class Module(Library):
         self.path = path
         self._lock = Lock()
         node = shutil.which("node")
+        # (variables of node, such as NODE_OPTIONS, can make it run other code first)
+        known = {name: value for name, value in os.environ.items() if not name.startswith("NODE_")}
         for options in OPTIONS if node else ():
             words = [str(node), *options, "--input-type=module", "-e", SERVES, path]
-            self._node = Popen(words, stdin=PIPE, stdout=PIPE, stderr=DEVNULL)
+            self._node = Popen(words, stdin=PIPE, stdout=PIPE, stderr=DEVNULL, env=known)
             try:
                 (self._its_version,) = self._words()
                 return

@@ -108,9 +108,9 @@ class Program:
     def find(cls, named: Optional[str] = None, timeout: Optional[float] = None) -> Program:
         """The program of this path, else of BALISECHECK, else the library that was stored with this balisekit, else the
         program of the clone, else the installed one. If there is none that starts, node runs the module that was stored
-        with this balisekit. `KitError` is raised if there is none, if its checksum is not known and no path was given, or
-        if it fails a trial run. With a limit of time neither library nor module answers, because nothing can end a call.
-        """
+        with this balisekit. `KitError` is raised if there is none, if its checksum is not known and no path was given,
+        or if it fails a trial run. With a limit of time neither library nor module answers, because nothing can end a
+        call."""
         if find_program.is_asked_for(named, timeout):
             return cls._started(named, timeout)
         library = _library()
