@@ -21,8 +21,8 @@ DESIGNS = 12
 NAMED: Dict[str, Dict[str, int]] = {"double track": {"E8": 1, "F10": 2}, "level 2 border": {"E24": 1}}
 """How many lines of a kind get a remark that its page names.
 
-For E8 that is "at some signals these trains are allowed to pass". F10 of these aspects, which have no profiles, is not
-expected then: another rule calls them wrong. For E24 it is a T_OL of its own, with an overlap as long as others.
+For E8 that is "at some signals these trains are allowed to pass". F10 of these aspects, which have no profiles, is
+not expected then: another rule calls them wrong. For E24 it is a T_OL of its own, with an overlap as long as others.
 """
 
 

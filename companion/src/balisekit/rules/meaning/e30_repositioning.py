@@ -73,8 +73,8 @@ def _announced(
     if decoded.is_inside(passage.track, place):
         words = (
             f"NID_BG {NOT_KNOWN} announces a group with a packet 16 (repositioning) at "
-            f"{decoded.km(passage.track, place)}, {metres(link.total)} from the group, and no group of the table "
-            "has one for these trains"
+            f"{decoded.km(passage.track, place)}, {metres(link.total)} from the group, and no group of the table has "
+            "one for these trains"
         )
         values = {"d_link_m": distance(link.total)}
         yield remark("E30", passage.at(packet, link.number), [Fault(words, values)])
