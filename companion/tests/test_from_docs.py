@@ -31,7 +31,7 @@ def checked(docs: Path) -> Tuple[int, str]:
 def test_the_package_has_the_texts_of_the_pages() -> None:
     assert checked(DOCS) == (0, "")
     assert len(explanations()) == 16 and len(reasons()) == 9
-    blocks = [1, 4, 1, 8, 1, 6, 1, 2]
+    blocks = [1, 4, 1, 9, 1, 6, 1, 2]
     assert [(is_list, len(block)) for is_list, block in premises()] == list(zip(cycle([False, True]), blocks))
 
 

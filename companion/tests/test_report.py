@@ -591,7 +591,7 @@ def test_a_list_is_a_list(tmp_path: Path) -> None:
     _, page = _report(_table(tmp_path / "t.csv", {"group": "A", "telegram": HEADER}), tmp_path / "r.html")
     said = page.split("<h2>What a yes means")[1].split("<h3>")[0]
     items = re.findall(r"<li>(.+?)</li>", said)
-    assert len(items) == 20 and items[0].startswith("In each aspect of each group, positions, totals")
+    assert len(items) == 21 and items[0].startswith("In each aspect of each group, positions, totals")
     assert said.count("<ul>") == 4 and not re.search(r">\s*- ", said)
 
 
