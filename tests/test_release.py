@@ -165,9 +165,10 @@ def test_tarball(made):
     tree = made.with_name("tree")
     assert sh(tree, "sha256sum --quiet -c SHA256SUMS") == ""
     if sum_of(tree / "balisecheck") == sum_of(TOP / STORED / "balisecheck"):
-        about, stored = (text_of(it / STORED / "ABOUT").partition("\nkit ")[2] for it in (tree, TOP))
+        about, stored = (text_of(it / STORED / "ABOUT").partition("\nkit ")[2].splitlines() for it in (tree, TOP))
+        own = [line for line in stored if "/" not in line]  # (the other files are here if scripts/targets built them)
         header = "crates/balisecheck_c/include/balisecheck.h"
-        assert about == stored and all(sum_of(tree / name) == sum_of(TOP / name) for name in (
+        assert about in (stored, own) and all(sum_of(tree / name) == sum_of(TOP / name) for name in (
             header, f"{STORED}/libbalisecheck.a", f"{STORED}/libbalisecheck.so.0"))
     readme = text_of(tree / "README.md")
     assert "\n**This is a trial" in readme and "@" not in readme
