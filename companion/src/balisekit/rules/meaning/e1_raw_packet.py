@@ -5,13 +5,13 @@ number that no packet has. The remark names the first place that does not fit. T
 7.5.1.
 - A packet does not fit if it has fewer or more bits than its layout. The layouts are balisekit's own, and nobody has
   compared them with a printed standard.
-- If two forms of a packet are possible, as for the packets 3 and 6, a packet does not fit if it fits neither. The
+- If two forms of a packet are possible, such as for the packets 3 and 6, a packet does not fit if it fits neither. The
   packets 13, 52 and 180 are not compared, because their lengths are not sure.
 - Spare values are an M_LEVELTR from 5 to 7, a Q_SCALE 3, an M_MAMODE 3, and a speed number above 120 (600 km/h) that
   has no special meaning. They are reported only if the layout is at least 97 % certain.
 - A project can state with `layouts` in `[check]` which packets it has compared with its print. Then they are compared
   completely, even if their layout is not certain.
-- A number that no packet has is one that is in no issue of the standard for system versions 1 and 2.
+- A number belongs to no packet if no issue of the standard for system versions 1 and 2 has a packet with it.
 
 Why it matters. At worst the train gets wrong information: it takes the bits of one variable for another. Or it rejects
 the message, or ignores the packet.

@@ -2,16 +2,17 @@
 
 What it says. A packet 5 names its own group, or one group twice. Or a link to a group has another Q_LOCACC or
 Q_LINKREACTION than the other links to it. The rule rests on SUBSET-026, 3.4.4 and 7.4.2.
-- The most frequent value counts as right, of equally frequent ones that of most links of the table.
+- The most frequent value counts as right. If several are equally frequent, the one that more links of the table have
+  counts.
 - Q_LINKREACTION is compared for trains of one way.
-- Such a value is reported if no other link of the table has it, and the table has at least ten links.
+- Another value is reported if no other link of the table has it, and the table has at least ten links.
 - With `--rules E20` each value is reported that is not the most frequent one.
 
 Why it matters. At worst the train brakes without need. It expects one group twice, or the expectation window of a group
 depends on which group linked it. A remark about Q_LOCACC or Q_LINKREACTION has the lowest urgency.
 
-Example. Before (`examples/meaning/mistakes/E20.csv`): Signal 4 links Signal 5 (km 16.000) with
-Q_LOCACC 12 m, and 2 of 3 links to it have 5 m. After: all links to Signal 5 have Q_LOCACC 5 m.
+Example. Before (`examples/meaning/mistakes/E20.csv`): Signal 4 links Signal 5 (km 16.000) with Q_LOCACC 12 m, and 2 of
+3 links to it have 5 m. After: all links to Signal 5 have Q_LOCACC 5 m.
 
 When it is a false alarm. The rule assumes that a train passes each group of a packet 5 once. On a balloon loop it
 passes a group twice. It also assumes that Q_LOCACC and Q_LINKREACTION belong to the group. They might depend on the

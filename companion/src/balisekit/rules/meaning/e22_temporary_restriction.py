@@ -9,10 +9,12 @@ of its own. The rule rests on SUBSET-026, 3.11.5 and 7.4.2.
 - The most frequent restriction counts as right.
 - A group within the restriction might send only the rest of it. Such a packet has D_TSR 0, and it agrees if V_TSR and
   the end of the restriction are the same.
-- L_TSR is 0. Or V_TSR is above each V_STATIC of the table, which has at least five packets 27.
-- A packet 66 has NID_TSR 255, which nothing can revoke. Or its NID_TSR is in a packet 65 of its own telegram.
-- The table and the messages have packets 65 that can be revoked, and a packet 66 has an NID_TSR that none of them has.
-  A packet 65 counts for the packet 66 only if both are for trains that run the same way, as far as this is known.
+- A packet 65 restricts nothing if its L_TSR is 0. The same holds if its V_TSR is above each V_STATIC and V_DIFF of a
+  table with at least five packets 27.
+- A packet 66 is reported if it has NID_TSR 255, which nothing can revoke. It is also reported if a packet 65 of its own
+  telegram has its NID_TSR.
+- If the table or the messages have packets 65 that can be revoked, a packet 66 is reported whose NID_TSR none of them
+  has. A packet 65 counts for the packet 66 only if both are for trains that run the same way, as far as this is known.
 
 Why it matters. At worst the train gets wrong information: the restriction begins too late, ends too early, has another
 speed, or is not revoked.

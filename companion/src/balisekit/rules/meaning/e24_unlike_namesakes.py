@@ -4,21 +4,23 @@ What it says. An aspect of one signal differs from the aspects of the same name 
 that they have, or one of its values is another one. The rule rests on SUBSET-026, 3.8 and 4.4.
 - A signal is a group in which at least half of the aspects have a packet 12 for one direction. At least five signals
   must have an aspect of this name. Infill groups and groups with a refused telegram are not compared, and are counted.
-- If fewer aspects have a packet 12, the group is compared if at least five signals have each of half of its names.
-  Only the packets that it lacks are reported then, and it does not count as another signal.
-- A packet 12, 21, 27 or 80 lacks if at least four of five signals have it. Any other packet lacks if all other signals
-  have it in the balise with the aspects. Packet 5 is not compared.
+- A group in which fewer aspects have a packet 12, but at least one, is compared by the names of its aspects. At least
+  half of the names must each occur at five or more signals, and its packets 12 must be for one direction. Then only
+  missing packets are reported, and the group does not count among the signals.
+- A packet 12, 21, 27 or 80 is missing if at least four of five signals have it. Any other packet is missing if all
+  other signals have it in the balise with the aspects. Packet 5 is not compared.
 - T_OL, D_STARTOL, V_RELEASEOL, V_RELEASEDP, T_SECTIONTIMER, D_SECTIONTIMERSTOPLOC, T_ENDTIMER, D_ENDTIMERSTARTLOC,
   M_MAMODE and V_MAMODE are compared if at least four other signals have them. All of these must have the same value,
-  and no other aspect of the table may have the value of this one. If no other signal has the D_OL or D_DP beside the
-  value, the value is not compared. Neither is a D_STARTOL that is equal to L_ENDSECTION.
-- V_MAIN is compared if at all other signals it is the greatest V_STATIC of the aspect, or else the same speed. A
-  V_MAIN that is too low is only reported if the signal has another proceed aspect whose V_MAIN is as usual. One that
-  differs from V_STATIC only, and that another aspect of the signal has too, is not reported. Neither is one that E2
-  reports.
-- Q_SRSTOP of packet 137 and Q_ASPECT of packet 132 are also compared if fewer signals have them. "Go" beside a V_MAIN
-  of 0 is reported if only this signal has it. The same holds for "stop" in a packet 137 beside a V_MAIN above 0. At
-  least one other signal must have the other value at its aspect of the same name.
+  and no aspect of another signal may have the value of this one. A value is not compared if no other signal has the
+  D_OL or D_DP beside it. A D_STARTOL that is equal to L_ENDSECTION is not compared either.
+- A V_MAIN above 0 is compared if at all other signals it is the greatest V_STATIC of the aspect, or if all of them have
+  the same speed. If it is too low, it is only reported if the signal has another proceed aspect whose V_MAIN is as
+  usual.
+- A V_MAIN that differs only from V_STATIC is not reported if another aspect of the signal has the same V_MAIN. What E2
+  reports is not reported again.
+- Q_SRSTOP of packet 137 and Q_ASPECT of packet 132 are compared with V_MAIN, even if few signals have them. "Go" beside
+  a V_MAIN of 0 is reported if only this signal has it, and another signal has "stop" at its aspect of the same name. In
+  the same way, "stop" in a packet 137 beside a V_MAIN above 0 is reported.
 
 Why it matters. At worst the train gets wrong information. At an aspect without packets it runs on with what the signal
 before has said, so that a red signal does not stop it. Or it gets a speed or a time of another signal.
@@ -27,11 +29,12 @@ Example. Before (`examples/meaning/mistakes/E24.csv`): "red" of Signal 3 (km 13.
 which "red" has at 5 other signals. After: it has a packet 12 with V_MAIN 0 and both profiles.
 
 When it is a false alarm. The rule assumes that an aspect of one name means the same at each signal. One signal might
-use a name in another way, or it might be the only one whose aspect stops no ETCS train. The rule assumes that a project
-uses one T_OL, one release speed and the like. One signal might have a value of its own, such as for a steep gradient or
-a short section, although its overlap is as long as others are. It assumes that a signal with a V_MAIN of its own has it
-at all its proceed aspects. Finally, it assumes that one signal alone does not let trains in staff responsible mode or
-shunting pass at danger, which can be right at a permissive signal.
+use a name in another way, or it might be the only one whose aspect stops no ETCS train. A signal at the border of the
+ETCS area might have a packet 12 at its stop aspects only. The rule assumes that a project uses one T_OL, one release
+speed and the like. One signal might have a value of its own, such as for a steep gradient or a short section, although
+its overlap is as long as others are. It assumes that a signal with a V_MAIN of its own has it at all its proceed
+aspects. Finally, it assumes that a signal treats trains in staff responsible mode and shunting like its namesakes. A
+single permissive signal might let them pass at danger.
 
 Usual cause. The telegram of the aspect was made without its packets, or a value was typed wrongly.
 

@@ -9,7 +9,8 @@ there. The rule rests on SUBSET-026, 3.8.
   and D_OL may differ by `--tolerance` and one unit of Q_SCALE.
 - Overlaps are not compared if aspects of one group already give several for this end.
 - Authorities with a packet 80 (mode profile) are not compared.
-- The most frequent value counts as right, of equally frequent ones the one that is more frequent in the table.
+- The most frequent value counts as right. If several are equally frequent, the one that is more frequent in the table
+  counts.
 
 Why it matters. At worst the train gets wrong information: it might pass the danger point, or run at a speed that is not
 meant for this signal.

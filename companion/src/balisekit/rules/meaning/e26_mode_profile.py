@@ -16,8 +16,8 @@ Example. Before (`examples/meaning/mistakes/E26.csv`): at "yellow" of Signal 3 (
 the group, and the authority ends 1,500 m from it. After: on sight begins at the group, with D_MAMODE 0.
 
 When it is a false alarm. The rule assumes that a mode profile belongs to an authority of the same message. A project
-might send it in a message of its own, such as by radio. The rule also assumes that no train runs faster than 100 km/h
-on sight, which a V_MAMODE that another limit restricts anyway does not say.
+might send it in a message of its own, such as by radio. The rule also assumes that V_MAMODE is the speed at which
+trains run in this mode. A project might send a great V_MAMODE if another limit restricts these trains anyway.
 
 Usual cause. D_MAMODE was counted from another signal, or has a wrong Q_SCALE. Or V_MAMODE was given in km/h instead of
 steps of 5 km/h.

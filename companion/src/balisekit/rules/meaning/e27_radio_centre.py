@@ -6,10 +6,12 @@ them by layouts of its own. The rule rests on SUBSET-026, 3.5, 3.15.1 and 7.5.1.
 - NID_RADIO has a digit from A to E, or an F before another digit. Sixteen F are the short number.
 - One RBC, by NID_C and NID_RBC, has different NID_RADIO. Or one NID_RADIO belongs to several RBC.
 - The most frequent number or RBC counts as right. If none is more frequent, the packet that comes later in the table is
-  reported.
+  reported. Of packets 131 for one border it is the one with the greater kilometre.
 - Packets 131 for trains that run the same way on the same track give different places or different RBC, although these
-  places are at most 500 m apart. Places may differ by `--tolerance` (default 1 m) and rounding.
-- Packets 42 with Q_RBC 0, the short number, and NID_RBC 16,383 (the RBC that was known last) are not compared.
+  places are at most 500 m apart. Places may differ by `--tolerance` (default 1 m) and rounding. Packets with D_RBCTR
+  32,767 (now) have no place to compare.
+- A number is not compared if it is the short number, or if its packet has Q_RBC 0 or NID_RBC 16,383 (the RBC that was
+  known last).
 
 Why it matters. At worst the train brakes without need. It calls a wrong number or a wrong RBC, and has no movement
 authority at the border.

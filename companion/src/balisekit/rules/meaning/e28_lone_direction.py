@@ -1,11 +1,11 @@
 """E28: packet for a direction of its own.
 
-What it says. A packet is for trains that run one way, and nothing else on its track is. The rule rests on SUBSET-026,
-3.6.3 and 7.3.
-- The other packets of its group are for trains of the other way, as are those of at least four other groups of the
-  track. Packets with Q_DIR 2 (both directions) do not count.
-- Packets 0, 5, 12, 15, 21, 27, 44, 80, 132, 137, 145, 254 and 255 are not reported. Other rules and the program compare
-  most of these.
+What it says. A packet is for trains that run one way, and no other group of its track has a packet for these trains.
+The rule rests on SUBSET-026, 3.6.3 and 7.3.
+- Its group and at least four other groups of the track have packets for trains of the other way. Packets with Q_DIR 2
+  (both directions) and the packets 0, 44, 145, 254 and 255 do not count.
+- Nothing is reported if the group has a packet 5, 12, 15, 21, 27, 80, 132 or 137 for these trains. Other rules and the
+  program compare most of these packets.
 
 Why it matters. At worst the train gets wrong information, or lacks it. The trains of this track do not get the packet,
 such as an order to open a session or to revoke a restriction.
@@ -13,10 +13,10 @@ such as an order to open a session or to revoke a restriction.
 Example. Before (`examples/meaning/mistakes/E28.csv`): the packet 42 of Signal 3 (km 13.000) has Q_DIR 0 (reverse), and
 all other packets of the line are for trains towards greater kilometres. After: the packet 42 has Q_DIR 1.
 
-When it is a false alarm. The rule assumes that a track on which only one group has anything for a direction is for the
-other direction only. A border might have one packet for trains that leave the area in the other direction. The table
-might end there, so that it lacks the other groups for these trains. The rule relies on the kilometres of the balises
-for the direction of each group.
+When it is a false alarm. The rule assumes that no train runs the other way on such a track. A border might have one
+packet for trains that leave the area in the other direction. The table might end there, so that it lacks the other
+groups for these trains. A group might also have one packet for trains that run against the usual direction, such as
+during a disturbance. The rule relies on the kilometres of the balises for the direction of each group.
 
 Usual cause. Q_DIR is wrong, because the packet was copied from a group whose nominal direction is the other one.
 

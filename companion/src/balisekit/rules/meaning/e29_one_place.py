@@ -1,14 +1,17 @@
 """E29: track condition at two places.
 
-What it says. Packets of two groups state different places, lengths or values of what looks like one track condition.
-The rule rests on SUBSET-026, 3.12.1 and 7.4.2.
+What it says. Packets of two groups state different places or lengths of what looks like one track condition. The rule
+rests on SUBSET-026, 3.12.1 and 7.4.2.
 - The packets are 68 (track condition), 71 (adhesion factor) and 138 (reversing area). The packets 39, 40, 67, 69 and 88
   are compared too if `layouts` in `[check]` names them, because balisekit is not sure of their layouts.
-- Conditions of one kind are compared on one track, for trains that run the same way. One must begin at most 200 m from
-  the other one, and no packet may have both.
-- A change to one traction system and a level crossing with one NID_LX are compared up to 2 km.
+- Conditions of one kind are compared on one track, for trains that run the same way, if they begin at most 200 m from
+  each other. If one packet has both of them, they are two conditions.
+- Conditions of one kind have one NID_PACKET and one value, such as M_TRACKCOND or M_ADHESION. Conditions with different
+  values are not compared.
+- Changes to one traction system (packet 39) and level crossings with one NID_LX (packet 88) are compared up to 2 km.
 - Places and lengths may differ by `--tolerance` (default 1 m) and rounding.
-- The place that most groups give counts as right.
+- The place and length that most groups give count as right. Of equally frequent ones, those at the lowest kilometre
+  count.
 - A group within the condition might send only the rest of it. Such a packet has the distance 0, and it agrees if the
   end of the condition is the same.
 
@@ -20,7 +23,7 @@ has it at km 15.500, both for 300 m. After: both have it at km 15.500.
 
 When it is a false alarm. The rule assumes that conditions of one kind within 200 m are one condition. Two short ones
 might follow each other, and each group might send only one of them. It assumes that all packets state the condition
-exactly. One of them might be longer on purpose, to be on the safe side. {kilometres} {missing} {one way}
+exactly. One of them might be longer on purpose, to be on the safe side. {leaving} {kilometres} {missing} {one way}
 
 Usual cause. A distance was not generated again for the second group. Or the condition was moved, and one group was
 forgotten.

@@ -4,12 +4,13 @@ What it says. A packet 5 announces a group with repositioning information that i
 (repositioning information) does not lead to a linked group. The rule rests on SUBSET-026, 3.4.4, 3.8.5 and 7.4.2.
 - A link with NID_BG 16,383 (not known) announces a group with a packet 16, whose identity depends on the route. It is
   reported if no group of the table has a packet 16 for trains that run this way. Groups of other tracks count too.
-- Such a link is only reported if D_LINK leads to a place between the ends of the table's track.
-- L_SECTION is compared with the packets 5 of the same message. It is reported if it ends more than 50 m from each group
-  that these packets name.
+- Such a link is only reported if D_LINK leads to a place between the ends of the table's track. It is not compared if a
+  group that might have the packet 16 has a refused telegram or an unknown direction.
+- L_SECTION is compared with the packets 5 of the same message. It is reported if the section ends more than 50 m from
+  each group that these packets name.
 
 Why it matters. At worst the train gets wrong information: the section of its authority ends at another place than the
-signal. Without the packet 16 the train keeps the length of the longest route, and brakes too early.
+signal. Without the packet 16 the train keeps the length that it has got before, which might be that of another route.
 
 Example. Before (`examples/meaning/mistakes/E30.csv`): Signal 3 (km 13.000) announces a group 1,000 m farther with
 NID_BG 16,383, and no group of the table has a packet 16. After: the packet 5 names Signal 4 with its NID_BG.

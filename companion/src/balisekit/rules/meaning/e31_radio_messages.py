@@ -3,20 +3,22 @@
 What it says. A radio message names a group that the table does not have, or a place where the train cannot be. The rule
 rests on SUBSET-026, 3.4.3, 3.6.2 and 8.7.
 - A message 3 (movement authority) or a position report (packet 0 or 1 of a message 136) has an NID_LRBG that no group
-  of the table has. NID_BG 16,383 means that the group is not known, and it is not reported.
+  of the table has. NID_BG 16,383 means that the group is not known, and it is not reported. If a group of the table has
+  a refused telegram, NID_LRBG is not compared.
 - In a position report D_LRBG leads beyond the next linked group of the track, by more than L_DOUBTOVER, Q_SCALE and
   `--tolerance` (default 1 m).
-- Two position reports of one NID_ENGINE have the same T_TRAIN, and other groups or distances.
+- Two position reports of one NID_ENGINE have the same T_TRAIN, and different groups or distances.
 
 Why it matters. At worst the train gets wrong information: an authority counts from a group that it has not passed.
 
 Example. Before (`examples/meaning/mistakes/E31.csv` with `examples/meaning/mistakes/E31-messages.txt`): the second
-message
-has the NID_LRBG of group 77, and the table has no such group. After: it has that of Signal 3, group 3.
+message has the NID_LRBG of group 77, and the table has no such group. After: it has that of Signal 3, group 3.
 
 When it is a false alarm. The rule assumes that the table has all groups of the messages. A table of a part of the line
-lacks some of them. A group of which no telegram could be read is not known either. The rule assumes that a train
-reports its position from the last linked group. It might have missed this group. {kilometres}
+lacks some of them. The rule assumes that a train reports its position from the last linked group. It might have missed
+this group, or ignored it because no packet 5 announced it. D_LRBG leads to its front, which might also be some metres
+beyond a group that its antenna has not read yet. The rule also assumes that a T_TRAIN does not occur twice. The clock
+of a train might begin anew after a stop without power. {kilometres}
 
 Usual cause. The messages were made for another release of the table. Or NID_LRBG or D_LRBG was typed wrongly.
 

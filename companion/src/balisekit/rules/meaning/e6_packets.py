@@ -1,7 +1,8 @@
 """E6: packets of one message.
 
 What it says. A balise has a packet that only radio or loops send, or a late packet 0, or a train gets two packets 5 or
-two authorities at once. The rule rests on SUBSET-026, 7.4, 8.4.4 and 8.7. A packet 0 is late after another packet.
+two authorities at once. The rule rests on SUBSET-026, 7.4, 8.4.4 and 8.7. A packet 0 is late if another packet comes
+before it.
 - Only radio sends the packets 15, 57, 58, 63 and 140, and only loops send packet 13.
 - A message 3 has exactly one authority: one packet 15, and no packet 12. The program refuses it without a packet 15.
 - A train gets two packets 5 at once if both are in one message and hold in one direction. Packets before and after a

@@ -9,7 +9,8 @@ rule rests on SUBSET-026, 3.8.
 - An aspect might also have such a packet for the wrong direction. It is reported if it is the only one with the packet
   for that direction, and at least two others have it only for the other direction.
 - Track conditions are the packets 39, 40, 51, 65, 67 to 71, 88, 138 and 139. The only proceed aspect without one is
-  also reported, if two other aspects have it. It must lead to the end of one of these aspects, on the same route.
+  also reported, if two other aspects have it. Its authority must reach at least the place where the authority of one of
+  these two ends, on the same route.
 - A stop aspect has a packet 12 with V_MAIN 0 that does not follow a packet 136. It is reported if it has no packet 137,
   and at least four of five stop aspects of the table have one with "stop". The table must have at least five stop
   aspects for this.
@@ -27,10 +28,10 @@ nominal.
 
 When it is a false alarm. The rule assumes that the aspects of a group need the same packets for one direction. An
 aspect for calling-on or for another route might need fewer. A track condition might be announced at one aspect only on
-purpose, if the next signal sends it in time. An aspect that only stops trains in the other direction
-might also need fewer. The rule also assumes that all stop aspects of the table, in both directions, stop trains in
-staff responsible mode too. At some signals these trains are allowed to pass. Finally, it assumes that stop aspects of
-one name treat shunting alike, which is not so if shunting is allowed at some.
+purpose, if the next signal sends it in time. An aspect that only stops trains in the other direction might also need
+fewer. The rule also assumes that all stop aspects of the table, in both directions, stop trains in staff responsible
+mode too. At some signals these trains are allowed to pass. Finally, it assumes that stop aspects of one name treat
+shunting alike, which is not so if shunting is allowed at some.
 
 Usual cause. A packet was lost, or its Q_DIR is wrong. Or the aspect was added later and is not complete.
 

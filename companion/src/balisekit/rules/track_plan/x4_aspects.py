@@ -1,8 +1,8 @@
 """X4: aspect other than in the route table of the plan.
 
 What it says. The packet 12 of an aspect differs from the plan's row for this aspect in V_MAIN, end, overlap or release
-speed. A row of the plan is also reported if its aspect has no packet 12 for trains of the row's way. The rule rests on
-SUBSET-026, 7.4.2 and 7.5.1.
+speed. A row of the plan is also reported if its aspect has no packet 12 for trains that run the way of the row. The
+rule rests on SUBSET-026, 7.4.2 and 7.5.1.
 - The end of authority is compared as a distance from the group.
 - The release speed belongs to the overlap, or to the danger point if there is no overlap.
 - Lengths may differ by the rounding of Q_SCALE and by `--tolerance` (default 0).
