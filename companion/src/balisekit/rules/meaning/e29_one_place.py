@@ -6,8 +6,8 @@ rests on SUBSET-026, 3.12.1 and 7.4.2.
   are compared too if `layouts` in `[check]` names them, because balisekit is not sure of their layouts.
 - Conditions of one kind are compared on one track, for trains that run the same way, if they begin at most 200 m from
   each other. If one packet has both of them, they are two conditions.
-- Conditions of one kind have one NID_PACKET and one value, such as M_TRACKCOND or M_ADHESION. Conditions with different
-  values are not compared.
+- Conditions are of one kind if they have the same NID_PACKET and, if the packet has one, the same value, such as
+  M_TRACKCOND or M_ADHESION. Conditions with different values are not compared.
 - Changes to one traction system (packet 39) and level crossings with one NID_LX (packet 88) are compared up to 2 km.
 - Places and lengths may differ by `--tolerance` (default 1 m) and rounding.
 - The place and length that most groups give count as right. Of equally frequent ones, those at the lowest kilometre
