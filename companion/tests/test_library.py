@@ -81,10 +81,12 @@ def test_lines_of_a_program_are_compared_with_the_form_of_records(
     """Those of the library are not, which would take long: it is known by its checksum."""
     for record in ("telegram", "message"):
         monkeypatch.setattr(records, f"{record}_expression", lambda: re.compile("(?!)"))
-    for way in (lambda it: it.decode([ALONE]), lambda it: it.messages([MESSAGE])):
-        assert [type(record) for record in way(library)] == [Record]
-        with pytest.raises(NoAnswer, match="no record of a (telegram|message)"):
-            list(way(program))
+    answers = [*library.decode([ALONE]), *library.messages([MESSAGE])]
+    assert [type(answer) for answer in answers] == [Record, Record]
+    with pytest.raises(NoAnswer, match="no record of a telegram"):
+        list(program.decode([ALONE]))
+    with pytest.raises(NoAnswer, match="no record of a message"):
+        list(program.messages([MESSAGE]))
 
 
 @pytest.mark.parametrize(
