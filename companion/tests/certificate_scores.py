@@ -138,7 +138,7 @@ REASONS: Sequence[Tuple[Sequence[str], str]] = (
     ),
     (
         ("danger point lost", "no reaction", "overlap begins at the group", "overlap lost", "overlap timer lost")
-        + ("release speeds exchanged", "sections in one"),
+        + ("release speeds exchanged", "section timers lost", "sections in one"),
         "Only a design says what is right.",
     ),
     (

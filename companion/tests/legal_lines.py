@@ -11,6 +11,7 @@ from random import Random
 from typing import Callable, Dict, List, Optional, Sequence, Tuple
 
 from legal_telegrams import INFINITE, Route, Site, Steps, Telegrams
+from meaning_mistakes import digits
 from meaning_mistakes_of_groups import raw
 
 KINDS = ("single track", "double track", "station", "level 2 border", "low density")
@@ -33,6 +34,7 @@ class LegalLine(Telegrams):
 
     def __init__(self, kind: str, seed: int) -> None:
         super().__init__(Random(f"{kind} {seed}"))
+        self.number = ""
         {
             "single track": lambda: self._stations(self.random.randint(4, 6), 2),
             "double track": self._double_track,
@@ -122,10 +124,12 @@ class LegalLine(Telegrams):
                 infill[-1].infill_of = signal
             self._chain(way, own, infill)
             self._further_packets(own)
+            self._conditions(own)
 
     def _level_border(self) -> None:
         """Level 1 up to a border, and groups of level 2 beyond it; on one or two tracks."""
         random = self.random
+        self.number = random.choice(("", f"{random.randrange(10**12):012}"))
         for track, way in (("1", 1), ("2", -1))[: random.choice((1, 2))]:
             count = random.randint(6, 9)
             if not self.gradients or track not in self.speeds:
@@ -145,6 +149,8 @@ class LegalLine(Telegrams):
                 distances = [abs(each.place - site.place) for each in ahead]
                 site.extra += self._linking(site, list(zip(ahead, distances)))
             self._level_orders(border, own, way)
+            self._centres(beyond)
+            self._leaving(border, beyond)
             self._further_packets(own)
 
     def _level_orders(self, border: Site, signals: Sequence[Site], way: int) -> None:
@@ -157,7 +163,27 @@ class LegalLine(Telegrams):
             site.extra.append(self._packet(site, 41, 1, d_leveltr=distance, transitions=transitions))
         first = signals[-4]
         first.extra.append(raw(45, f"{0x262_01F:024b}", self.direction(first)))
-        first.extra.append(raw(42, f"1{352:010b}{77:014b}{'1' * 64}0", self.direction(first)))
+        for site in (first, *self.random.choice(((), (signals[-3],)))):
+            site.extra.append(raw(42, f"1{352:010b}{77:014b}{digits(self.number)}0", self.direction(site)))
+
+    def _centres(self, beyond: Sequence[Site]) -> None:
+        """Another radio block centre after the last group beyond the border, which two groups announce."""
+        place = beyond[-1].place + (beyond[-1].place - beyond[-2].place) // 2
+        for site in beyond[-2:]:
+            distance, number = abs(place - site.place) // 10, digits("4711")
+            order = f"01{distance:015b}{352:010b}{78:014b}{number}1"
+            site.extra.append(raw(131, order, self.direction(site)))
+
+    def _leaving(self, border: Site, beyond: Sequence[Site]) -> None:
+        """On some lines, what trains of the other direction need to leave level 2."""
+        if self.random.random() < 0.5:
+            levels = [{"m_leveltr": 2, "l_ackleveltr": 0}]
+            for site in (border, *beyond[:2]):
+                distance = abs(border.place - site.place) // 10 or INFINITE
+                order = self._packet(site, 41, 1, d_leveltr=distance, transitions=levels)
+                site.extra.append({**order, "q_dir": 1 - order["q_dir"]})
+            end = raw(42, f"0{352:010b}{77:014b}{'1' * 64}0", 1 - self.direction(border))
+            border.extra.append(end)
 
     def _stations(self, count: int, tracks: int) -> None:
         """Stations of a single track for both directions: entry signals, and exit signals on each track."""

@@ -144,6 +144,36 @@ class Telegrams:
             site = self.random.choice(list(signals))
             site.extra.append(raw(44, f"{17:09b}{0xA5A5:016b}", self.direction(site)))
 
+    def _conditions(self, signals: Sequence[Site]) -> None:
+        """What two or three signals of one track, in the order of passing, announce of the track ahead of them."""
+        random = self.random
+        for _ in range(random.randint(1, 3)):
+            last = random.randrange(2, len(signals))
+            place, length = random.randrange(300, 1_500), random.randrange(50, 900)
+            kind, distance_to_next = random.choice((0, 1, 3, 4, 9)), random.choice((0, 0, length + 60))
+            for site in signals[last - random.choice((1, 1, 2)) : last + 1]:
+                begin = abs(signals[last].place - site.place) // 10 + place
+                elements = f"{begin:015b}{length:015b}{kind:04b}{bool(distance_to_next):05b}"
+                elements += f"{distance_to_next:015b}{length:015b}{kind:04b}" if distance_to_next else ""
+                site.extra.append(raw(68, f"010{elements}", self.direction(site)))
+                crossing = f"{last:08b}{begin + 2_000:015b}{25:015b}0"
+                site.extra.append(raw(88, f"01{crossing}", self.direction(site)))
+        self._restriction(signals)
+
+    def _restriction(self, signals: Sequence[Site]) -> None:
+        """A temporary restriction that one or two signals give, and that the next one revokes in some projects."""
+        random = self.random
+        last, number, speed = random.randrange(1, len(signals) - 1), random.randrange(255), random.choice((20, 60, 80))
+        begin, length = random.randrange(100, 700), random.randrange(20, 200)
+        for site in signals[last - random.choice((0, 1)) : last + 1]:
+            distance = abs(signals[last].place - site.place) // 10 + begin
+            site.extra.append(
+                raw(65, f"01{number:08b}{distance:015b}{length:015b}0{speed // 5:07b}", self.direction(site))
+            )
+        if random.random() < 0.7:
+            after = signals[last + 1]
+            after.extra.append(raw(66, f"{number:08b}", random.choice((self.direction(after), 2))))
+
     def direction(self, site: Site) -> int:
         """Q_DIR of the packets for the trains of a site."""
         return int(site.way == site.nominal)

@@ -157,6 +157,16 @@ def table(program: Program, rows: List[Item]) -> str:
     return out.getvalue()
 
 
+def without_orientations() -> List[str]:
+    """The rows `group,km,telegram` of A and B of the line without faults. Each group has one kilometre.
+
+    Their links lead to groups that are not in the table or turn no balise, so L3 compares none of them.
+    """
+    rows = csv.DictReader((FOLDER / "line.csv").read_text("utf-8").splitlines())
+    places = {"A": "10.000", "B": "11.000"}
+    return [f"{row['group']},{places[row['group']]},{row['telegram']}" for row in rows if row["group"] in places]
+
+
 if __name__ == "__main__":
     _program = Program.find()
     FOLDER.mkdir(exist_ok=True)

@@ -1,14 +1,26 @@
 """Lines with one mistake each for the rules from E12 on, as teams make them: `examples/meaning/mistakes`.
 
-`python3 companion/tests/meaning_mistakes.py` writes each table, and beside it what `check TABLE --only E --rules all --folded`
-writes after its first lines.
+`python3 companion/tests/meaning_mistakes.py` writes each table, and beside it what
+`check TABLE --only E --rules all --folded` writes after its first lines.
 """
 from __future__ import annotations
 
 from typing import Any, Dict, List
 
 from meaning_line import Line, Row, Site, change, packet, table, telegram
-from meaning_mistakes_of_groups import FIXED, GREEN, MISTAKES_FOLDER, RED, SHORT, YELLOW, Change, Mistake, answer, raw
+from meaning_mistakes_of_groups import (
+    FIXED,
+    GREEN,
+    MISTAKES_FOLDER,
+    RED,
+    SHORT,
+    YELLOW,
+    Change,
+    Mistake,
+    answer,
+    messages_of,
+    raw,
+)
 
 from balisekit.engine.program import Program
 
@@ -18,9 +30,19 @@ def restriction(number: int, distance: int, length: int, speed: int) -> Any:
     return raw(65, f"01{number:08b}{distance:015b}{length:015b}0{speed // 5:07b}")
 
 
-def session(q_rbc: int = 1) -> Any:
-    """A packet 42."""
-    return raw(42, f"{q_rbc}{352:010b}{1:014b}{'1' * 64}0")
+def session(q_rbc: int = 1, number: str = "", centre: int = 1, direction: int = 1) -> Any:
+    """A packet 42 with a telephone number, or the short number."""
+    return raw(42, f"{q_rbc}{352:010b}{centre:014b}{digits(number)}0", direction)
+
+
+def digits(number: str) -> str:
+    """A telephone number as the bits of NID_RADIO."""
+    return "".join(f"{int(each, 16):04b}" for each in number.ljust(16, "f"))
+
+
+def condition(distance: int, length: int = 300, kind: int = 9) -> Any:
+    """A packet 68 in metres."""
+    return raw(68, f"010{distance:015b}{length:015b}{kind:04b}{0:05b}")
 
 
 def on_sight(begin: int, speed: int = 40, length: int = 1500) -> Any:
@@ -28,9 +50,27 @@ def on_sight(begin: int, speed: int = 40, length: int = 1500) -> Any:
     return raw(80, f"01{begin:015b}00{speed // 5:07b}{length:015b}{0:015b}0{0:05b}")
 
 
-def announcement_by_radio() -> Any:
-    """A packet 131: an order to change the radio block centre in 1,000 m."""
-    return raw(131, f"01{1000:015b}{352:010b}{2:014b}{'1' * 64}0")
+def announcement_by_radio(distance: int = 1000, centre: int = 2, number: str = "") -> Any:
+    """A packet 131: an order to change the radio block centre."""
+    return raw(131, f"01{distance:015b}{352:010b}{centre:014b}{digits(number)}0")
+
+
+def unknown_ahead(distance: int) -> Change:
+    """Signal 3 announces a group that is not known yet."""
+
+    def announce(rows: List[Row]) -> None:
+        linking = change(rows, "Signal 3", FIXED, 5)
+        linking["links"] = [{**linking["links"][0], "nid_bg": 16_383, "d_link": distance}]
+
+    return announce
+
+
+def movement_authority(number: int) -> Any:
+    """A message 3 with the profiles of yellow of signal 3, whose authority counts from a group."""
+    own: Any = {"nid_packet": 15, "q_dir": 1, "q_scale": 1, **authority(1500)}
+    del own["v_main"]
+    packets = [own, *(change(SHORT.rows, "Signal 3", YELLOW, each) for each in (21, 27))]
+    return {"nid_message": 3, "t_train": 100, "m_ack": 0, "nid_c": 352, "nid_bg": number, "packets": packets}
 
 
 def form_of(rows: List[Row], group: str, aspect: str) -> Any:
@@ -133,6 +173,11 @@ RESTRICTED = all_of(
     with_packet("Signal 2", FIXED, restriction(7, 2500, 500, 40)),
     with_packet("Signal 3", FIXED, restriction(7, 1000, 500, 40)),
 )
+SESSIONS = all_of(
+    with_packet("Signal 1", FIXED, session(1, "0123456789")),
+    with_packet("Signal 2", FIXED, session(1, "0123456789")),
+    with_packet("Signal 3", FIXED, session(1, "0123465789")),
+)
 
 MISTAKES: Dict[str, Mistake] = {
     "E12": Mistake(SHORT, added("Signal 3", GREEN, "l_endsection", 12, 50)),
@@ -150,6 +195,13 @@ MISTAKES: Dict[str, Mistake] = {
     "E24": Mistake(SHORT, lambda rows: form_of(rows, "Signal 3", RED)["packets"].clear()),
     "E25": Mistake(SHORT, lambda rows: change(rows, "Signal 3", GREEN, 12)["overlap"].update(d_ol=150)),
     "E26": Mistake(SHORT, with_packet("Signal 3", YELLOW, on_sight(1600))),
+    "E27": Mistake(SHORT, SESSIONS),
+    "E28": Mistake(SHORT, with_packet("Signal 3", FIXED, session(direction=0))),
+    "E29": Mistake(
+        SHORT, all_of(with_packet("Signal 3", FIXED, condition(2500)), with_packet("Signal 4", FIXED, condition(1150)))
+    ),
+    "E30": Mistake(SHORT, unknown_ahead(1000)),
+    "E31": Mistake(SHORT, lambda rows: None, (movement_authority(3), movement_authority(77))),
 }
 """A realistic mistake for each rule."""
 
@@ -159,4 +211,6 @@ if __name__ == "__main__":
     _program = Program.find()
     for _name, _mistake in MISTAKES.items():
         (MISTAKES_FOLDER / f"{_name}.csv").write_text(table(_program, _mistake.rows), "utf-8")
+        if _mistake.messages:
+            messages_of(_name).write_text(_mistake.lines(_program), "utf-8")
         (MISTAKES_FOLDER / f"{_name}.txt").write_text(answer(_name), "utf-8")

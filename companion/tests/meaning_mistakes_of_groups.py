@@ -8,7 +8,8 @@ from __future__ import annotations
 import contextlib
 import copy
 import io
-from typing import Any, Callable, Dict, List, NamedTuple
+from pathlib import Path
+from typing import Any, Callable, Dict, List, NamedTuple, Sequence
 
 import meaning_line
 from meaning_line import FOLDER, Line, Row, change
@@ -122,6 +123,12 @@ class Mistake(NamedTuple):
 
     line: Line
     change: Change
+    messages: Sequence[Any] = ()
+    """The radio messages beside it."""
+
+    def lines(self, program: Program) -> str:
+        """The messages as a file has them."""
+        return "".join(f"{text.line}\n" for text in program.encode(self.messages, radio=True))
 
     @property
     def rows(self) -> List[Row]:
@@ -147,14 +154,20 @@ MISTAKES: Dict[str, Mistake] = {
 """A realistic mistake for each rule."""
 
 
+def messages_of(name: str) -> Path:
+    """The file of the radio messages of an example, if it has any."""
+    return MISTAKES_FOLDER / f"{name}-messages.txt"
+
+
 def answer(name: str) -> str:
     """What `check` writes about the table with this mistake, after the lines on table, program and settings.
 
     The line that lists all rules is not stored: a new rule would change each file.
     """
-    out = io.StringIO()
+    out, messages = io.StringIO(), messages_of(name)
+    given = ["--messages", str(messages)] if messages.exists() else []
     with contextlib.redirect_stdout(out):
-        cli.main(["check", str(MISTAKES_FOLDER / f"{name}.csv"), "--only", "E", "--rules", "all", "--folded"])
+        cli.main(["check", str(MISTAKES_FOLDER / f"{name}.csv"), *given, "--only", "E", "--rules", "all", "--folded"])
     lines = out.getvalue().splitlines(keepends=True)[3:]
     return "".join(line for line in lines if not line.startswith("applied: "))
 

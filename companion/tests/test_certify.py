@@ -8,12 +8,13 @@ import re
 from collections import Counter
 from pathlib import Path
 from types import SimpleNamespace
-from typing import Any, Dict, List, Set, Tuple
+from typing import Any, Dict, List, Optional, Set, Tuple
 
 import certificate_scores
 import mistakes_page
 import pytest
 from conftest import Run
+from link_tables import without_orientations
 from meaning_line import table
 from meaning_mistakes_of_groups import raw
 
@@ -28,21 +29,21 @@ from balisekit.mistakes.mistake import Change, Mistake
 from balisekit.mistakes.of_fields import changed
 from balisekit.mistakes.of_rows import with_header
 from balisekit.mistakes.original import Original
+from balisekit.present.certificate_tables import messages_text, table_text
 from balisekit.rules import checking
 from balisekit.rules.families import FAMILIES, apply
 from balisekit.rules.rule import Options
-from balisekit.tables import reader
-from balisekit.tables.model import Row
+from balisekit.tables import messages as messages_file, reader
 
 TOP = Path(__file__).resolve().parents[2]
 LINE = TOP / "examples" / "meaning" / "line.csv"
 PARTS = ("In real life", "Here", "For a train")
-COLUMNS = ("group", "name", "km", "track", "nominal", "aspect", "balise", "telegram")
 
 
-def baseline_of(program: Program, path: Path) -> Baseline:
+def baseline_of(program: Program, path: Path, messages: Optional[Path] = None) -> Baseline:
     """A line as `check` judges it."""
-    outcome = apply(checking.check(program, reader.read(str(path))), tuple(FAMILIES), Options())
+    radio = messages_file.read(str(messages)) if messages else None
+    outcome = apply(checking.check(program, reader.read(str(path)), radio), tuple(FAMILIES), Options())
     return Baseline(outcome, Judge(tuple(FAMILIES), Options()))
 
 
@@ -50,26 +51,6 @@ def tried(program: Program, path: Path, per_kind: int) -> Tuple[Baseline, List[T
     """The changes of a line."""
     baseline = baseline_of(program, path)
     return baseline, trials(Original(baseline.outcome.checked), per_kind, 1)
-
-
-def written(path: Path, rows: Dict[int, Row]) -> Path:
-    """A table with these rows at their places. Rows that are lost are empty."""
-    with path.open("w", encoding="utf-8", newline="") as file:
-        sheet = csv.writer(file)
-        sheet.writerow(COLUMNS)
-        for number in range(2, max(rows) + 1):
-            row = rows.get(number)
-            sheet.writerow([getattr(row, name) if getattr(row, name, None) is not None else "" for name in COLUMNS])
-    return path
-
-
-def after(original: Original, trial: Trial) -> Dict[int, Row]:
-    """The rows after a change."""
-    rows = {number: row for number, row in original.rows.items() if number not in trial.change.lost}
-    for number, row in rows.items():
-        text = trial.texts.get(number, row.telegram)
-        rows[number] = row._replace(telegram=text, **trial.change.cells.get(number, {}))
-    return rows
 
 
 def rows_in(line: str) -> Tuple[int, ...]:
@@ -82,10 +63,9 @@ def rows_in(line: str) -> Tuple[int, ...]:
     return tuple(found)
 
 
-def said(run: Run, folder: Path, rows: Dict[int, Row]) -> Tuple["Counter[Any]", "Counter[str]"]:
+def said(run: Run, answer: Path, *words: object) -> Tuple["Counter[Any]", "Counter[str]"]:
     """The open entries and refusals of `check` by what they say, and its hints."""
-    path, answer = written(folder / "changed.csv", rows), folder / "answer.json"
-    status, _, errors = run("check", path, "--json", answer, "--force")
+    status, _, errors = run("check", *words, "--json", answer, "--force")
     if status == 2 and errors:
         return Counter(("refused", "", rows_in(line), ()) for line in errors), Counter()
     made = json.loads(answer.read_text("utf-8"))
@@ -94,39 +74,41 @@ def said(run: Run, folder: Path, rows: Dict[int, Row]) -> Tuple["Counter[Any]", 
         (
             each["rule"],
             each["sentence"],
-            tuple(sorted({*each["rows"], *each["other_rows"]})),
-            (each["group"], tuple(each["aspects"]), each["direction"]),
+            tuple(sorted({*each["rows"], *each["other_rows"], *([-each["message"]] if each["message"] else [])})),
+            (each["group"], tuple(each["aspects"]), each["direction"], each["message"]),
         )
         for each in entries
     ]
     named += [("refused", each["text"], (each["row"],), ()) for each in made["refused"]]
+    named += [("refused", each["text"], (-each["line_of_file"],), ()) for each in made["refused_messages"]]
     hints = [*made["table"]["notes"], *made["notes"], *made["counts"]["look"]]
     return Counter(named), Counter(hints)
 
 
-def slow_answer(run: Run, folder: Path, before: Tuple[Any, Any], original: Original, trial: Trial) -> Answer:
-    """What `check` of the changed file says of a change."""
-    entries, hints = said(run, folder, after(original, trial))
-    new = [each for each in (entries - before[0]).elements()]
-    places: Set[int] = {*trial.change.rows, *trial.change.lost}
+def slow_answer(before: Tuple[Any, Any], after: Tuple[Any, Any], places: Set[int]) -> Answer:
+    """What `check` of a changed file says of a change with these places."""
+    new = list((after[0] - before[0]).elements())
     if any(places.intersection(each[2]) for each in new):
         return Answer.FOUND
-    gone = {re.sub("[0-9]", "", each) for each in before[1] - hints}
-    hinted = [each for each in hints - before[1] if re.sub("[0-9]", "", each) not in gone]
+    gone = {re.sub("[0-9]", "", each) for each in before[1] - after[1]}
+    hinted = [each for each in after[1] - before[1] if re.sub("[0-9]", "", each) not in gone]
     return Answer.ELSEWHERE if new else Answer.HINTED if hinted else Answer.NOT_FOUND
 
 
 def compare(run: Run, program: Program, folder: Path, path: Path, per_kind: int, part: slice) -> int:
     """Compares both ways for a part of the changes, and returns how many were compared."""
     baseline, made = tried(program, path, per_kind)
-    original = Original(baseline.outcome.checked)
-    before = said(run, folder, dict(original.rows))
+    changed_file, answer = folder / "changed.csv", folder / "answer.json"
+    before = said(run, answer, path)
     compared = 0
     for trial in made[part]:
         if trial.fits:
             quick = judged(baseline, trial).answer
             wanted = Answer.NOT_FOUND if quick is Answer.LEGAL else quick
-            assert wanted is slow_answer(run, folder, before, original, trial), (trial.mistake.name, trial.change.words)
+            changed_file.write_text(table_text(baseline.outcome.checked.table, trial), "utf-8")
+            places = {*trial.change.rows, *trial.change.lost}
+            slow = slow_answer(before, said(run, answer, changed_file), places)
+            assert wanted is slow, (trial.mistake.name, trial.change.words)
             compared += 1
     return compared
 
@@ -135,6 +117,61 @@ def compare(run: Run, program: Program, folder: Path, path: Path, per_kind: int,
 def test_quick_way(run: Run, program: Program, tmp_path: Path) -> None:
     """A change is judged in memory as `check` judges the file. One that is counted apart makes nothing new."""
     assert compare(run, program, tmp_path, LINE, 1, slice(None, None, 9)) > 50
+
+
+@pytest.mark.uncovered
+def test_quick_way_of_messages(run: Run, program: Program, tmp_path: Path) -> None:
+    """The same for changes of radio messages: those that two signals would get."""
+    messages, answer, changed_file = (tmp_path / name for name in ("m.txt", "a.json", "changed.txt"))
+    messages.write_text("\n".join(["", *radio_messages(program)]), "utf-8")
+    baseline = baseline_of(program, LINE, messages)
+    before, radio = said(run, answer, LINE, "--messages", messages), messages_file.read(str(messages))
+    compared: Set[Answer] = set()
+    for trial in trials(Original(baseline.outcome.checked), 1, 1)[::3]:
+        places = {*trial.change.rows, *trial.change.lost}
+        if trial.fits and all(place < 0 for place in places):
+            quick = judged(baseline, trial).answer
+            changed_file.write_text(messages_text(radio, trial), "utf-8")
+            slow = slow_answer(before, said(run, answer, LINE, "--messages", changed_file), places)
+            assert slow is (Answer.NOT_FOUND if quick is Answer.LEGAL else quick), trial.change.words
+            compared.add(quick)
+    assert {Answer.FOUND, Answer.NOT_FOUND} <= compared
+
+
+def radio_messages(program: Program) -> List[str]:
+    """The lines of a file with the authorities of two signals as messages 3."""
+    original, lines = Original(baseline_of(program, LINE).outcome.checked), []
+    for group in original.groups[2:4]:
+        form: Any = original.forms[group.aspects[-1].rows[1].number]
+        packets = [{**each, "nid_packet": 15} if each["nid_packet"] == 12 else each for each in form["packets"]]
+        packets[0] = {key: value for key, value in packets[0].items() if key != "v_main"}
+        about = {"nid_message": 3, "t_train": 100, "m_ack": 0, "nid_c": form["nid_c"], "nid_bg": form["nid_bg"]}
+        (text,) = program.encode([{**about, "packets": packets}], radio=True)
+        lines.append(f"{text.line};to {group.name}")
+    return lines
+
+
+def test_examples(run: Run, program: Program, tmp_path: Path) -> None:
+    """The example of each kind is a file, and `check` of it answers as the certificate says."""
+    path, folder, messages = TOP / "examples" / "links" / "line.csv", tmp_path / "examples", tmp_path / "m.txt"
+    messages.write_text("\n".join(radio_messages(program)), "utf-8")
+    words = [path, "--messages", messages]
+    certificate, answer = tmp_path / "c.json", tmp_path / "a.json"
+    made = ["--per-kind", 1, "--json", certificate, "--examples", folder]
+    status, out, _ = run("certify", *words, *made)
+    assert status == 0
+    places = {(each["kind"], each["change"]): each for each in json.loads(certificate.read_text("utf-8"))["changes"]}
+    before, written = said(run, answer, *words), [line for line in out if line.startswith("written: ")]
+    assert sorted(folder.iterdir()) == sorted(Path(line.split(": ")[1]) for line in written)
+    assert {Path(line.split(": ")[1]).suffix for line in written} == {".csv", ".txt"}
+    for line in written[::8]:
+        _, file, wanted, change = line.split(": ", 3)
+        each = places[Path(file).stem.replace("-", " "), change]
+        changed_words = [path, "--messages", file] if file.endswith(".txt") else [file, *words[1:]]
+        lost = {number for number, row in enumerate(Path(file).read_text("utf-8").split("\n"), 1) if not row.strip(",")}
+        own = {*each["rows"], *lost, *(-number for number in each["messages"])}
+        assert slow_answer(before, said(run, answer, *changed_words), own).value == each["answer"] == wanted, line
+    assert "not empty" in run("certify", *words, "--examples", folder)[2][0]
 
 
 @pytest.mark.long
@@ -235,10 +272,10 @@ def test_one_change_of_several_kinds(program: Program) -> None:
 def test_incomplete(run: Run, tmp_path: Path, cut: bool) -> None:
     """If the line itself cannot be judged completely, the status is 2, and all outputs give the reasons of `check`."""
     pytest.importorskip("jinja2")
-    rows = csv.DictReader((TOP / "examples" / "links" / "line.csv").read_text("utf-8").splitlines())
-    lines = [f"{row['group']},{row['km'].split('.')[0]},{row['telegram']}" for row in rows if row["group"] in "AB"]
     path, answer, page = (tmp_path / name for name in ("t.csv", "a.json", "a.html"))
-    path.write_text("\n".join(["group,km,telegram", *lines, *([f"C,20,{'0' * 53}"] if cut else [])]), "utf-8")
+    path.write_text(
+        "\n".join(["group,km,telegram", *without_orientations(), *([f"C,20,{'0' * 53}"] if cut else [])]), "utf-8"
+    )
     _, checked, _ = run("check", path)
     status, out, _ = run("certify", path, "--minutes", "0.01", "--json", answer, "--html", page)
     made = json.loads(answer.read_text("utf-8"))

@@ -17,6 +17,7 @@ from typing import Any, Callable, Iterator, List, Tuple
 import pytest
 from cases_of_program import TOP
 from conftest import Run
+from link_tables import without_orientations
 from telegrams import ALONE, MESSAGE, OTHER, SPARE
 
 from balisekit.io import csv_writing
@@ -215,17 +216,11 @@ def test_junit_has_a_suite_for_each_family(run: Run, table: Write, tmp_path: Pat
 
 
 def test_junit_of_a_rule_that_looked_at_nothing(run: Run, table: Write, tmp_path: Path) -> None:
-    path = table("group,km,telegram", *_without_direction())
+    path = table("group,km,telegram", *without_orientations())
     status, out, _ = run("check", path, "--junit", tmp_path / "out.xml")
     assert status == 2 and out[-1].startswith("INCOMPLETE: L3 compared none of ")
     case = next(ElementTree.parse(tmp_path / "out.xml").iter("error"))
     assert str(case.get("message")).startswith("L3 compared none of ")
-
-
-def _without_direction() -> List[str]:
-    """The line without faults, in which no group shows whether the kilometres rise."""
-    rows = csv.DictReader((EXAMPLES / "links" / "line.csv").read_text("utf-8").splitlines())
-    return [f"{row['group']},{row['km'].split('.')[0]},{row['telegram']}" for row in rows if row["group"] in "AB"]
 
 
 def test_a_sheet_for_each_entry(run: Run, table: Write, tmp_path: Path) -> None:

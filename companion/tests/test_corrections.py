@@ -4,21 +4,24 @@ from __future__ import annotations
 import json
 from decimal import Decimal
 from pathlib import Path
-from typing import Any, Dict, List, Tuple
+from typing import Any, Dict, Iterator, List, Sequence, Tuple, cast
 
 import entries_of_mistakes
 import meaning_line
 import pytest
 from conftest import Run
 from meaning_line import Line, Row
+from meaning_mistakes import form_of
 from test_meaning import Change, written
 
 from balisekit.engine.program import Program
+from balisekit.engine.records import Form
 from balisekit.rules import checking, families
 from balisekit.rules.corrections import kilometres
 from balisekit.rules.corrections.correction import Correction, Evidence
 from balisekit.rules.families import FAMILIES, apply, items_of
-from balisekit.rules.rule import Options
+from balisekit.rules.line import Line as Railway
+from balisekit.rules.rule import Options, Result, Rule
 from balisekit.tables import reader
 
 BOTH = meaning_line.SOUND["both-directions"]
@@ -67,6 +70,36 @@ def answers(run: Run, path: Path, *words: str) -> Tuple[List[str], Dict[str, Any
     assert status == 1
     found: Dict[str, Any] = json.loads(output.read_text("utf-8"))
     return out, found
+
+
+@pytest.mark.parametrize(
+    "change, signals, rows, sentence",
+    [
+        (
+            lambda rows: form_of(rows, "Signal 6", "*").update(m_version=32),
+            6,
+            [22],
+            "M_VERSION is 32 (2.0), and 33 (2.1) in all 5 other groups: with 33 all would agree",
+        ),
+        (lambda rows: form_of(rows, "Signal 3", "*").update(m_version=32), 5, [11, 12, 13], ""),
+        (
+            lambda rows: form_of(rows, "Signal 3", "red").update(m_mcount=2),
+            6,
+            [11],
+            'M_MCOUNT is 2, and 1 in each "red" of 5 other groups: with 1 all would agree',
+        ),
+        (lambda rows: form_of(rows, "Signal 3", "red").update(m_mcount=2), 5, [12], ""),
+    ],
+)
+def test_a_header_that_the_rest_of_the_table_corrects(
+    run: Run, program: Program, tmp_path: Path, change: Change, signals: int, rows: List[int], sentence: str
+) -> None:
+    """It is at its own row, although the program compares another one with it. Four other groups are too few."""
+    path = written(program, tmp_path / "t.csv", Line(signals=signals), change)
+    out, found = answers(run, path)
+    (entry,) = found["entries"]
+    assert entry["rows"] == rows and len(entry["folded"]) == bool(sentence)
+    assert not sentence or entry["sentence"] == sentence and "folded below it: 1 entry (F" in "\n".join(out)
 
 
 def test_a_kilometre_with_exchanged_digits(run: Run, program: Program, tmp_path: Path) -> None:
@@ -188,8 +221,37 @@ def test_no_correction_is_guessed(
 
 def test_a_large_table_is_not_judged_again(program: Program, tmp_path: Path, monkeypatch: pytest.MonkeyPatch) -> None:
     path = written(program, tmp_path / "t.csv", Line(), moved("Signal 9", 270))
-    monkeypatch.setattr("balisekit.rules.corrections.trying.TELEGRAMS", 59)
-    assert len(apply(checking.check(program, reader.read(str(path))), tuple(FAMILIES), Options()).entries) == 3
+    made = checking.check(program, reader.read(str(path)))
+    monkeypatch.setattr("balisekit.rules.corrections.trying.JUDGED", 60 + 3)  # (its telegrams and its entries)
+    assert len(apply(made, tuple(FAMILIES), Options()).entries) == 1
+    monkeypatch.setattr("balisekit.rules.corrections.trying.JUDGED", 60 + 3 - 1)
+    assert len(apply(made, tuple(FAMILIES), Options()).entries) == 3
+
+
+def test_nothing_is_asked_of_a_corrected_table_after_a_new_entry(
+    program: Program, tmp_path: Path, monkeypatch: pytest.MonkeyPatch
+) -> None:
+    """Rules E come first, so that most corrections cost less than all rules."""
+
+    def suggest(evidence: Evidence) -> Iterator[Correction]:
+        group = evidence.groups["Signal 9"]
+        row = group.aspects[0].rows[1].number
+        yield Correction(group, (row,), "", forms={row: cast(Form, {**evidence.forms[row], "packets": []})})
+
+    path = written(program, tmp_path / "t.csv", Line(), moved("Signal 9", 270))
+    made = checking.check(program, reader.read(str(path)))
+    monkeypatch.setattr(families, "SUGGESTIONS", ((suggest,),))
+    asked: List[str] = []
+    results_of = families.results_of
+
+    def noted(line: Railway, options: Options, rules: Sequence[Rule]) -> Iterator[Tuple[Rule, Result]]:
+        for rule, result in results_of(line, options, rules):
+            asked.append(rule.name)
+            yield rule, result
+
+    monkeypatch.setattr(families, "results_of", noted)
+    assert len(apply(made, tuple(FAMILIES), Options()).entries) == 3
+    assert asked[0] == "E1" and "L1" not in asked
 
 
 @pytest.mark.slow

@@ -152,7 +152,7 @@ def test_nothing_to_draw(run: Run, table: Write, tmp_path: Path) -> None:
         ("t.csv", 2, "t.csv: it is an input: an output never replaces one"),
         ("hard.csv", 2, "hard.csv: it is an input: an output never replaces one"),
         ("other", 2, "other: it is a file: name a folder that is new or empty"),
-        ("-", 2, "several pictures cannot go to standard output: name a folder that is new or empty"),
+        ("-", 2, "several files cannot go to standard output: name a folder that is new or empty"),
         ("none/new", 3, "none/new: there is no folder "),
         ("other/new", 3, "other/new: there is no folder "),
         ("loop", 3, "loop: no file can be written there: "),

@@ -18,8 +18,12 @@ from balisekit.tables import reader
 pytestmark = pytest.mark.uncovered
 DESIGNS = 12
 """How many lines there are of each kind: 60 in all."""
-NAMED: Dict[str, Dict[str, int]] = {"double track": {"E8": 2}}
-"""How many lines of a kind get a remark that its page names: "at some signals these trains are allowed to pass"."""
+NAMED: Dict[str, Dict[str, int]] = {"double track": {"E8": 1, "F10": 2}, "level 2 border": {"E24": 1}}
+"""How many lines of a kind get a remark that its page names.
+
+For E8 that is "at some signals these trains are allowed to pass". F10 of these aspects, which have no profiles, is not
+expected then: another rule calls them wrong. For E24 it is a T_OL of its own, although the overlap is as long as others.
+"""
 
 
 def outcome_of(program: Program, path: Path, kind: str, seed: int) -> Outcome:

@@ -7,6 +7,7 @@ from functools import partial
 from pathlib import Path
 from typing import Any, Callable, Dict, List, Optional, Sequence, Tuple
 
+import meaning_line
 import meaning_mistakes
 import pytest
 from conftest import Run
@@ -22,6 +23,7 @@ from meaning_mistakes import (
     all_of,
     announcement_by_radio,
     authority,
+    condition,
     form_of,
     on_sight,
     restriction,
@@ -901,6 +903,182 @@ def test_e26(found: Found) -> None:
 
     (one,) = found("E26", SHORT, without_authority)
     assert one.sentence == "its message has no packet 12 or 15"
+
+
+SAME = session(1, "0123456789")
+
+
+@pytest.mark.parametrize(
+    "packets, words",
+    [
+        ([SAME, SAME], ""),
+        ([SAME, session(0, "0123456798")], ""),
+        ([SAME, session(1, "")], ""),
+        ([session(1, "0123456789", 16_383), session(1, "0123456798", 16_383)], ""),
+        ([SAME, session(1, "0123456798")], "RBC 1 of country 352 has the number 0123456798, and 0123456789 by 1 other"),
+        ([SAME, session(1, "0123456789", 2)], "the number 0123456789 is that of RBC 2 of country 352, and that of RBC"),
+        ([SAME, announcement_by_radio(1000, 1, "0123456798")], "RBC 1 of country 352 has the number 0123456798"),
+        ([session(1, "01234A6789")], "NID_RADIO is 01234A6789FFFFFF, which is no telephone number"),
+        ([session(1, "F123456789")], "NID_RADIO is F123456789FFFFFF, which is no telephone number"),
+        ([session(1, "012F456789")], "NID_RADIO is 012F456789FFFFFF, which is no telephone number"),
+    ],
+)
+def test_e27(found: Found, packets: Sequence[Any], words: str) -> None:
+    """One RBC has one number, and one number belongs to one RBC."""
+    made = found("E27", SHORT, all_of(*(with_packet(f"Signal {n}", FIXED, each) for n, each in enumerate(packets, 1))))
+    assert len(made) == bool(words) and all(words in each.sentence and each.blamed for each in made)
+    assert all(each.location.row and each.location.row.group == f"Signal {len(packets)}" for each in made)
+
+
+@pytest.mark.parametrize(
+    "second, words",
+    [
+        (announcement_by_radio(1000), ""),
+        (announcement_by_radio(1002), ""),
+        (announcement_by_radio(32_767, 3), ""),
+        (announcement_by_radio(1600, 3), ""),
+        (announcement_by_radio(1150), "the border is at km 15.650 (1150 m from the group), and at km 15.500 (1000 m"),
+        (announcement_by_radio(1000, 3), "trains change to RBC 3 of country 352, and by Signal 3 (km 13.000), row 10"),
+    ],
+)
+def test_e27_of_borders(found: Found, second: Any, words: str) -> None:
+    """Packets 131 for one border. Those for at once and those more than 500 m apart are for others."""
+    first = with_packet("Signal 3", FIXED, announcement_by_radio(2500))
+    made = found("E27", SHORT, all_of(first, with_packet("Signal 4", FIXED, second)))
+    assert len(made) == bool(words) and all(words in each.sentence for each in made)
+    assert all(rows_named(each) == (14, 10) for each in made)
+
+
+def test_e28(found: Found) -> None:
+    """A packet of its own direction, unless another group speaks to these trains, or it is one that others look at."""
+    alone = with_packet("Signal 3", FIXED, session(direction=0))
+    (one,) = found("E28", SHORT, alone)
+    assert one.blamed == [(10, 1, "q_dir", None)] and "in 6 groups of the track" in one.sentence
+    for others in (
+        with_packet("Signal 4", FIXED, session(direction=0)),
+        with_packet("Signal 3", FIXED, raw(137, "1", 0)),
+        only(lambda row: row.group in ("Signal 1", "Signal 2", "Signal 3", "Signal 4")),
+    ):
+        assert not found("E28", SHORT, all_of(others, alone))
+    for packet_ in (session(direction=2), session(), raw(44, "0" * 9, 0), raw(145, "", 0)):
+        assert not found("E28", SHORT, with_packet("Signal 3", FIXED, packet_))
+    assert not found("E28", BOTH, alone)
+
+
+def crossing(distance: int, length: int = 20) -> Any:
+    """A packet 88 in metres."""
+    return raw(88, f"01{5:08b}{distance:015b}{length:015b}0")
+
+
+@pytest.mark.parametrize(
+    "first, second, count",
+    [
+        (condition(2500), condition(1000), 0),
+        (condition(2500), condition(1002), 0),
+        (condition(2500), condition(1150), 1),
+        (condition(2500), condition(1000, 250), 1),
+        (condition(2500), condition(1250), 0),  # (more than 200 m apart)
+        (condition(2500), condition(1150, 300, 3), 0),  # (another kind)
+        (condition(1400, 300), condition(0, 200), 0),  # (the rest of it)
+        (condition(1400, 300), condition(0, 150), 1),
+        (raw(71, f"01{2500:015b}{300:015b}0"), raw(71, f"01{1100:015b}{300:015b}0"), 1),
+        (raw(138, f"01{2500:015b}{300:015b}"), raw(138, f"01{1100:015b}{300:015b}"), 1),
+        (raw(68, "011" + "0" * 15), condition(1000), 0),
+        (crossing(2500), crossing(1150), 0),  # (its layout is less certain)
+    ],
+)
+def test_e29(found: Found, first: Any, second: Any, count: int) -> None:
+    made = found("E29", SHORT, all_of(with_packet("Signal 3", FIXED, first), with_packet("Signal 4", FIXED, second)))
+    assert len(made) == count and all(rows_named(each) == (14, 10) for each in made)
+
+
+def test_e29_of_layouts_that_a_project_has_compared(found: Found) -> None:
+    """A level crossing has an identity, so that 1,500 m are no other one."""
+    both = all_of(with_packet("Signal 3", FIXED, crossing(2500)), with_packet("Signal 4", FIXED, crossing(2500)))
+    (one,) = found("E29", SHORT, both, Options(layouts=frozenset({88})))
+    assert "at km 17.000 (2500 m from the group) for 20 m, and by Signal 3 (km 13.000), row 10 at km 15.500" in (
+        one.sentence
+    )
+
+
+def test_e29_of_two_conditions(found: Found) -> None:
+    """A packet that has both shows that there are two. Of three the one that differs is reported."""
+    elements = f"{2500:015b}{50:015b}{9:04b}"
+    two = raw(68, f"010{elements}{1:05b}{100:015b}{50:015b}{9:04b}")
+    sent = with_packet("Signal 3", FIXED, two), with_packet("Signal 4", FIXED, condition(1100, 50))
+    assert not found("E29", SHORT, all_of(*sent))
+    usual = (with_packet(f"Signal {number}", FIXED, condition(5500 - 1500 * number)) for number in (1, 3))
+    (one,) = found("E29", SHORT, all_of(*usual, with_packet("Signal 2", FIXED, condition(2600))))
+    assert one.location.row and one.location.row.group == "Signal 2"
+
+
+def repositioning(section: int, announced: int = 16_383) -> Change:
+    """A group 500 m in rear of signal 4 with a packet 16, which signal 3 announces."""
+
+    def insert(rows: List[Row]) -> None:
+        site = meaning_line.Site("Repositioning", 7000, 14_000, 1, 1)
+        link = {"d_link": 500, "nid_bg": 4, "q_linkorientation": 1, "q_linkreaction": 1, "q_locacc": 5}
+        own = meaning_line.packet(site, 5, links=[link]), raw(16, f"01{section:015b}")
+        place = next(index for index, row in enumerate(rows) if row.group == "Signal 4")
+        made = [meaning_line.telegram(site, 0, 255, *own), meaning_line.telegram(site, 1, 255)]
+        rows[place:place] = [Row(site.name, f"R{n}", 14_000 + 3 * n, "", n, form) for n, form in enumerate(made)]
+        meaning_mistakes.unknown_ahead(1000)(rows)
+        change(rows, "Signal 3", FIXED, 5)["links"][0]["nid_bg"] = announced
+
+    return insert
+
+
+def test_e30(found: Found) -> None:
+    """A group that is announced and not there, and a section that ends at no group."""
+    (one,) = found("E30", SHORT, meaning_mistakes.unknown_ahead(1000))
+    assert one.location.link == 0 and one.location.row and one.location.row.group == "Signal 3"
+    for change_ in (repositioning(500), repositioning(540), meaning_mistakes.unknown_ahead(9000)):
+        assert not found("E30", SHORT, change_)  # (the last one is beyond the end of the table)
+    for section in (400, 700):
+        (one,) = found("E30", SHORT, repositioning(section))
+        assert one.sentence.startswith(
+            f"L_SECTION is {section} m, and the nearest group that packets 5 of this message"
+        )
+    assert not found("E30", SHORT, with_packet("Signal 6", FIXED, raw(16, f"01{500:015b}")))  # (without a packet 5)
+
+
+def test_e18_of_acknowledgements(found: Found) -> None:
+    """Two announcements of one border with the same levels have the same L_ACKLEVELTR."""
+
+    def set_length(rows: List[Row]) -> None:
+        change(rows, "Signal 4", FIXED, 41)["transitions"][0]["l_ackleveltr"] = 20
+
+    (one,) = found("E18", meaning_mistakes.BORDER, set_length)
+    assert one.sentence == "L_ACKLEVELTR is 200 m, and 20 m by Signal 4 (km 14.500), row 14"
+    assert rows_named(one) == (18, 14) and one.blamed == [(18, 1, "l_ackleveltr", 0)]
+
+
+def revocation(number: int, direction: int = 1) -> Any:
+    """A packet 66."""
+    return raw(66, f"{number:08b}", direction)
+
+
+@pytest.mark.parametrize(
+    "first, second, words",
+    [
+        ([restriction(7, 700, 200, 40)], [revocation(7)], ""),
+        ([], [revocation(7)], ""),
+        ([restriction(255, 700, 200, 40)], [revocation(7)], ""),
+        ([], [revocation(255)], "NID_TSR is 255, and nothing can revoke a restriction with this number"),
+        ([restriction(7, 700, 200, 40)], [revocation(8)], "NID_TSR is 8, and no packet 65 of the table has it"),
+        ([restriction(7, 700, 200, 40)], [revocation(7, 0)], "only packets 65 for trains of the other direction"),
+        ([], [restriction(7, 700, 200, 40), revocation(7)], "it revokes the restriction 7 of its own telegram"),
+        ([restriction(7, 700, 0, 40)], [], "L_TSR is 0 m"),
+        ([restriction(7, 700, 200, 250)], [], "V_TSR is 250 km/h [50], above each V_STATIC of the table, at most 140"),
+        ([restriction(7, 700, 200, 140)], [], ""),
+        ([restriction(7, 700, 200, 400)], [], ""),  # (E2 reports it)
+    ],
+)
+def test_e22_without_effect(found: Found, first: Sequence[Any], second: Sequence[Any], words: str) -> None:
+    """A packet 65 that restricts nobody, and a packet 66 that revokes nothing."""
+    changes = with_packet("Signal 2", FIXED, *first), with_packet("Signal 4", FIXED, *second)
+    made = found("E22", SHORT, all_of(*changes))
+    assert len(made) == bool(words) and all(words in each.sentence for each in made)
 
 
 def test_e19_passes_over_stretches_without_length(found: Found) -> None:

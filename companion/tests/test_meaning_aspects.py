@@ -488,3 +488,17 @@ def test_e24_of_stop_and_go(program: Program, tmp_path: Path) -> None:
     assert not found(program, path, "E24", *orders(GREEN, 132, "10"))
     (one,) = found(program, path, "E24", *orders(RED, 137, "00001"), without(5, RED, 12))
     assert "lacks packet 12" in one.sentence and "Q_SRSTOP" not in one.sentence
+
+
+@pytest.mark.parametrize(
+    "having, lacking",
+    [((RED, YELLOW), GREEN), ((RED, GREEN), ""), ((YELLOW, GREEN), ""), ((RED,), ""), ((RED, YELLOW, GREEN), "")],
+)
+def test_e8_of_conditions(program: Program, tmp_path: Path, having: Sequence[str], lacking: str) -> None:
+    """Green leads farther than yellow, so it needs the condition too. Yellow need not have what green has beyond it."""
+    changes = [with_packet("Signal 3", aspect, raw(68, f"010{500:015b}{300:015b}{9:04b}{0:05b}")) for aspect in having]
+    made = found(program, tmp_path / "t.csv", "E8", *changes)
+    assert [each.aspects for each in made] == ([[lacking]] if lacking else [])
+    assert all(
+        "lacks packet 68 (track condition) in nominal direction, which 2 other" in each.sentence for each in made
+    )

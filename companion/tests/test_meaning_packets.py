@@ -27,7 +27,6 @@ from meaning_mistakes_of_groups import (
 from test_meaning import remarks, written
 
 from balisekit.engine.program import Program
-from balisekit.etcs.variables import Form
 from balisekit.rules import checking, meaning
 from balisekit.rules.line import Line as LineOfTable
 from balisekit.rules.rule import ALL, Options
@@ -55,16 +54,52 @@ def test_examples_of_mistakes(program: Program, name: str) -> None:
 
 
 def test_e1(program: Program, tmp_path: Path) -> None:
-    """Too many bits, and a spare number. What fits, and a packet whose layout nobody knows, is passed over."""
+    """Too many bits, a spare number, and a number that no packet has. What fits is passed over."""
     changes = [
         packets_added(1, RED, restriction(8, "00000000")),
         packets_added(2, RED, restriction(121)),
         packets_added(3, RED, restriction(120), raw(99, "1010")),
     ]
     made = found(program, tmp_path / "t.csv", "E1", changes)
-    assert [row for row, _ in made] == [row_of(1, RED), row_of(2, RED)]
+    assert [row for row, _ in made] == [row_of(1, RED), row_of(2, RED), row_of(3, RED)]
     assert "8 bits more than its layout" in made[0][1] and "V_TSR has the spare number 121" in made[1][1]
     assert made[0][1].endswith("; its L_PACKET is 79 bits")
+    assert made[2][1] == "no packet to trains has NID_PACKET 99 in system versions 1 and 2"
+
+
+CROSSING = raw(88, f"01{5:08b}{500:015b}{20:015b}0")
+"""A packet whose layout is less certain, and that fits it."""
+
+
+@pytest.mark.parametrize(
+    "packet, words",
+    [
+        (CROSSING, ""),
+        (raw(88, f"01{5:08b}{500:015b}{20:015b}0000"), "the packet has 3 bits more than its layout: bits 64 to 66"),
+        (raw(39, f"01{500:015b}{5:08b}"), "the packet has 4 bits more than its layout"),
+        (raw(79, f"010{3:014b}{0:015b}1{13000:020b}{0:05b}"), "the packet ends within N_ITER, which needs 5 bits"),
+        (raw(6, f"0{1:06b}{352:010b}"), ""),
+        (raw(6, f"0{1:06b}{352:010b}{0:08b}"), ""),
+        (raw(6, f"0{1:06b}{352:010b}{0:07b}"), "the packet has 7 bits more than its layout"),
+        (raw(52, "0101"), ""),
+        (raw(13, "0101"), ""),
+        (raw(180, "0101"), ""),
+        (raw(88, f"11{5:08b}{500:015b}{20:015b}0"), ""),
+    ],
+)
+def test_e1_of_bodies_that_fit_no_form(program: Program, tmp_path: Path, packet: Any, words: str) -> None:
+    """A layout that is less certain finds a wrong length only, and no spare number: Q_SCALE 3 is not reported."""
+    made = found(program, tmp_path / "t.csv", "E1", [packets_added(3, RED, packet)])
+    assert len(made) == bool(words) and all(words in each and "% sure of this layout" in each for _, each in made)
+
+
+def test_e1_of_layouts_that_a_project_has_compared(program: Program, tmp_path: Path) -> None:
+    """They are compared completely, and without a doubt."""
+    compared = Options(layouts=frozenset({52, 88}))
+    changes = [packets_added(3, RED, raw(88, f"11{5:08b}{500:015b}{20:015b}0")), packets_added(4, RED, raw(52, "0101"))]
+    made = found(program, tmp_path / "t.csv", "E1", changes, compared)
+    assert [row for row, _ in made] == [row_of(4, RED), row_of(3, RED)] and "Q_SCALE has the spare number" in made[1][1]
+    assert not any("sure" in each for _, each in made)
 
 
 def test_e2(program: Program, tmp_path: Path) -> None:
@@ -419,11 +454,11 @@ def test_e6_leaves_out_equal_packets(program: Program, tmp_path: Path) -> None:
         ),
     ],
 )
-def test_e6_of_authorities(program: Program, tmp_path: Path, further: List[Form], words: List[str]) -> None:
+def test_e6_of_authorities(program: Program, tmp_path: Path, further: List[Any], words: List[str]) -> None:
     """A message 3 has exactly one packet 15 and no packet 12. Equal ones and those of the other direction count too."""
     authority: Any = {"q_scale": 1, "end_speed": 0, "end_timeout": 1023, "sections": [], "l_endsection": 900}
     level: Any = {"q_scale": 1, "elements": [{"d_gradient": 0, "q_gdir": 1, "g_a": 255}]}
-    others = [{"q_dir": 0, **(level if each["nid_packet"] == 21 else authority), **each} for each in further]
+    others = [{"q_dir": 0, **(level if each["nid_packet"] == 21 else authority), **dict(each)} for each in further]
     form: Any = {"nid_message": 3, "t_train": 1, "m_ack": 0, "nid_c": 352, "nid_bg": 1}
     (made,) = program.encode([{**form, "packets": [{"nid_packet": 15, "q_dir": 1, **authority}, *others]}], radio=True)
     path = tmp_path / "m.txt"
@@ -453,3 +488,62 @@ def test_messages_are_looked_at(program: Program, tmp_path: Path) -> None:
         ("E5", True, ""),
         ("E6", True, ""),
     ]
+
+
+def report(number: int, distance: int, time: int, **values: Any) -> Any:
+    """A position report at a distance from a group."""
+    own = {"nid_packet": 0, "q_scale": 1, "nid_c": 352, "nid_bg": number, "d_lrbg": distance, "q_dirlrbg": 1}
+    own.update({"q_dlrbg": 1, "l_doubtover": 10, "l_doubtunder": 10, "q_length": 0, "v_train": 24, "q_dirtrain": 1})
+    own.update({"m_mode": 0, "m_level": 3, **values})
+    return {"nid_message": 136, "t_train": time, "nid_engine": 1, "packets": [own]}
+
+
+def of_messages(program: Program, path: Path, *forms: Any) -> List[Tuple[int, str]]:
+    """The lines and sentences of rule E31 about messages beside the short line."""
+    lines = path.with_name("messages.txt")
+    lines.write_text("".join(f"{text.line}\n" for text in program.encode(forms, radio=True)), "utf-8")
+    checked = checking.check(program, reader.read(str(written(program, path, SHORT))), messages_file.read(str(lines)))
+    (rule,) = [each for each in meaning.RULES if each.name == "E31"]
+    made = rule.find(LineOfTable.of(checked), Options())
+    assert made.looked_at == len(forms)
+    return [(each.location.message.number if each.location.message else 0, each.sentence) for each in made.found]
+
+
+def test_e31(program: Program, tmp_path: Path) -> None:
+    """A group that is not there, a train beyond the next group, and one that is at two places at once."""
+    group = "NID_LRBG is that of group 88 of country or region 352, and the table has no such group"
+    forms = [report(3, 500, 1), report(88, 500, 2), report(3, 1600, 3), report(3, 1511, 4), report(3, 600, 1)]
+    assert of_messages(program, tmp_path / "t.csv", *forms) == [
+        (2, group),
+        (
+            3,
+            "the train is 1600 m from Signal 3 (km 13.000), and has passed Signal 4 (km 14.500), 1500 m from it, which "
+            "has Q_LINK 1: its NID_LRBG would be that group",
+        ),
+        (
+            5,
+            "at T_TRAIN 1 the train 1 is 600 m from group 3 of country or region 352, and 500 m from group 3 of "
+            "country or region 352 by the message of line 1",
+        ),
+    ]
+
+
+@pytest.mark.parametrize(
+    "form",
+    [
+        report(16_383, 500, 1),
+        report(3, 1600, 1, q_dlrbg=0),  # (behind the train the next group is 1,500 m away, and it has Q_LINK 1)
+        report(1, 1600, 1, q_dlrbg=0),
+        report(3, 32_767, 1),
+        report(6, 5000, 1),
+    ],
+)
+def test_e31_of_what_is_not_known(program: Program, tmp_path: Path, form: Any) -> None:
+    """A group that is not known, a distance that is not known, and a place beyond the table."""
+    behind = form["packets"][0]["q_dlrbg"] == 0 and form["packets"][0]["nid_bg"] == 3
+    assert len(of_messages(program, tmp_path / "t.csv", form)) == behind
+
+
+def test_e31_of_a_time_that_is_not_known(program: Program, tmp_path: Path) -> None:
+    reports = [report(3, distance, 4_294_967_295) for distance in (100, 200)]
+    assert of_messages(program, tmp_path / "t.csv", *reports) == []

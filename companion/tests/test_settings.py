@@ -8,6 +8,7 @@ from typing import List, Sequence, Tuple
 import pytest
 from conftest import Run
 from meaning_line import Line, Row
+from meaning_mistakes_of_groups import packets_added, raw
 from test_meaning import written
 
 from balisekit.engine.program import Program
@@ -27,6 +28,18 @@ def test_a_project_states_its_line_once(run: Run, program: Program, tmp_path: Pa
     assert run("check", path)[0] == 1
     assert run("check", path, "--line-speed", "180")[0] == 0
     assert run("check", path, "--only", "F")[0] == 0
+
+
+def test_layouts_that_a_project_has_compared(run: Run, program: Program, tmp_path: Path) -> None:
+    """A Q_SCALE 3 in a packet 88, whose layout is less certain, is reported once the project has compared it."""
+    crossing = raw(88, f"11{5:08b}{500:015b}{20:015b}0")
+    path = written(program, tmp_path / "t.csv", Line(6), packets_added(3, "red", crossing))
+    assert run("check", path)[0] == 0
+    (tmp_path / "balisekit.toml").write_text("[check]\nlayouts = [39, 88]\n", "utf-8")
+    status, out, _ = run("check", path)
+    assert status == 1 and "check.layouts=39,88" in "\n".join(out).replace(" ", "")
+    assert any(": E1: packet 88" in line and "Q_SCALE has the spare number 3" in line for line in out)
+    assert run("check", path, "--only", "L")[0] == 0
 
 
 @pytest.mark.parametrize(

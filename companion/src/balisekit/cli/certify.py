@@ -2,19 +2,24 @@
 from __future__ import annotations
 
 import argparse
+import os
 import re
 import sys
 import time
-from typing import Callable
+from typing import Callable, Iterator
 
 from balisekit.certificate.certificate import certificate
 from balisekit.certificate.judging import Judge
 from balisekit.cli import console, options as shared, settings
 from balisekit.cli.outcome import add_only, letters_of, outcome as outcome_of, signed_by, stated
 from balisekit.io import clock
+from balisekit.io.output_folder import OutputFolder
 from balisekit.io.outputs import write_json
+from balisekit.certificate.certificate import Certificate
 from balisekit.present.certificate_json import as_json
+from balisekit.present.certificate_tables import examples
 from balisekit.present.certificate_text import lines, page
+from balisekit.tables.names import clean
 
 PER_KIND, SEED = 5, 1
 GREATEST = 1000
@@ -47,6 +52,8 @@ def add_options(parser: argparse.ArgumentParser) -> None:
     most = "end after this time; what was not tried is counted"
     parser.add_argument("--minutes", **shared.value("MINUTES", _minutes, most))
     parser.add_argument("--html", **shared.output_file("write the certificate as one page of HTML"))
+    text = "write the table with one mistake of each kind into a folder that is new or empty, for `check`"
+    parser.add_argument("--examples", **shared.value("DIR", lambda path: OutputFolder(shared.name(path)), text))
     shared.add(parser, "--json", "--force")
 
 
@@ -63,8 +70,16 @@ def run(options: argparse.Namespace) -> int:
         options.html.write(page(made, now))
     if options.json:
         write_json(options.json, as_json(made))
-    shared.say(lines(made), options.html, options.json)
+    written = list(_written(made, options.examples)) if options.examples else []
+    shared.say(lines(made, written), options.html, options.json)
     return 0 if outcome.whole else 2
+
+
+def _written(made: Certificate, folder: OutputFolder) -> Iterator[str]:
+    """Writes the examples, and gives a line for each."""
+    for each in examples(made):
+        folder.write(each.name, [each.text])
+        yield clean(f"written: {os.path.join(folder.path, each.name)}: {each.words}")
 
 
 def _progress() -> Callable[[int, int], None]:

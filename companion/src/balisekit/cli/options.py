@@ -106,7 +106,7 @@ def add(parser: argparse.ArgumentParser, *options: str, **changed: Any) -> None:
 def refuse_unused(options: argparse.Namespace, purpose: str, *unused: str) -> None:
     """Raises TableError if one of these options is given, which serve another purpose."""
     for option in unused:
-        if not any(getattr(options, option) is default for default in (None, False, EXACT)):
+        if not any(getattr(options, option, None) is default for default in (None, False, EXACT)):
             raise TableError(f"--{option.replace('_', '-')} is not used {purpose}")
 
 

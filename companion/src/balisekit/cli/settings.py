@@ -12,6 +12,7 @@ from typing import Any, Callable, Dict, FrozenSet, Mapping, NamedTuple, Optional
 
 from balisekit.cli import options as shared
 from balisekit.errors import TableError, faults_of
+from balisekit.etcs import raw_layouts
 from balisekit.io.inputs import InputPath, is_python
 from balisekit.rules import meaning
 from balisekit.rules.chainage import Jump, look_at, read_jumps
@@ -57,18 +58,33 @@ def _rules_from(text: str) -> str:
     return InputPath(shared.name(text)) if is_python(text) else shared.name(text)
 
 
+def _layouts(text: str) -> FrozenSet[int]:
+    """The numbers of packets to trains that balisekit has a layout of."""
+    known = {layout.number for layout in raw_layouts.layouts().values() if layout.from_track}
+    found = set()
+    for each in text.split(","):
+        if not re.fullmatch("[0-9]{1,3}", each.strip()) or int(each) not in known:
+            raise argparse.ArgumentTypeError(
+                f"{each[:40] or 'nothing'} is no raw packet of which balisekit has a layout"
+            )
+        found.add(int(each))
+    return frozenset(found)
+
+
 class Kind(NamedTuple):
     """What the value of a key of [check] can be."""
 
     read: Callable[[str], Any]
     """Reads it as an option has it."""
     types: Tuple[type, ...]
-    """Its types in a file. The items of a list are texts."""
+    """Its types in a file."""
     example: str
     families: str
     """The letters of the families of rules that use it."""
     one_by_one: bool = False
     """Whether the items of a list are read one by one."""
+    item: type = str
+    """The type of the items of a list."""
 
 
 KINDS: Mapping[str, Kind] = {
@@ -78,6 +94,7 @@ KINDS: Mapping[str, Kind] = {
     "jumps": Kind(str, (str,), '"jumps.csv"', "LEX"),
     "plan": Kind(str, (str,), '"plan.csv"', "LEX"),
     "rules": Kind(_rules, (str, list), '["E2", "E20"]', f"E{ADDED}"),
+    "layouts": Kind(_layouts, (list,), "[39, 67]", "E", item=int),
     "rules_from": Kind(_rules_from, (list,), '["acme.py"]', ADDED, one_by_one=True),
 }
 """The keys of [check]."""
@@ -133,6 +150,7 @@ def of_line(options: argparse.Namespace) -> Options:
         plan=plan,
         asked=asked,
         added=known,
+        layouts=stated.get("layouts", frozenset()),
         replaced=_replaced(of_file.get("rules_from", ()), of_command.get("rules_from")),
     )
 
@@ -203,14 +221,14 @@ def _value(name: str, value: object) -> Any:
     """A value of the file, read as an option is if it has the type that is wanted."""
     kind = KINDS[name]
     has_type = type(value) in kind.types  # (true and false are whole numbers for isinstance)
-    if not has_type or isinstance(value, list) and not all(isinstance(item, str) for item in value):
+    if not has_type or isinstance(value, list) and not all(type(item) is kind.item for item in value):
         raise TableError(f"[check] {name} is {_type_words(value, kind)}: write {name} = {kind.example}")
     if isinstance(value, int) and value.bit_length() > LONGEST:
         raise TableError(f"[check] {name} is a number of more than 18 digits: write {name} = {kind.example}")
     try:
         if isinstance(value, list) and kind.one_by_one:
             return list(map(kind.read, value))
-        return kind.read(",".join(value) if isinstance(value, list) else str(value))
+        return kind.read(",".join(map(str, value)) if isinstance(value, list) else str(value))
     except argparse.ArgumentTypeError as error:
         raise TableError(f"[check] {name}: {error}") from error
 
@@ -220,7 +238,8 @@ def _type_words(value: object, kind: Kind) -> str:
     if type(value) is int:
         return "a number"
     words = TYPES.get(type(value), "a date or a time")
-    return f"{words} of other things than texts" if type(value) in kind.types else words
+    items = "numbers" if kind.item is int else "texts"
+    return f"{words} of other things than {items}" if type(value) in kind.types else words
 
 
 def heading(options: argparse.Namespace) -> own_headings.ReportHeading:

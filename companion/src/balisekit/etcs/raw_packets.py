@@ -53,6 +53,10 @@ class Content:
     fields: List[RawField] = field(default_factory=list)
     fault: Optional[RawFault] = None
     """The first one."""
+    misfit: Optional[RawFault] = None
+    """Why the body is too short or too long, which is the first fault unless a number before it is spare."""
+    left: int = 0
+    """How many bits follow the last variable."""
     is_complete: bool = False
     """Whether the body has exactly the bits of the layout. Some number may be spare."""
 
@@ -133,16 +137,22 @@ class _Reader:
         content = self.content
         with suppress(_End):
             self.object(content.layout.fields, content.values, {}, "")
-            left = len(self.bits) - self.at
+            left = content.left = len(self.bits) - self.at
             content.is_complete = left == 0
             if left:
                 many = f"{left} bit{'s' if left > 1 else ''} more than its layout"
-                self.fault("", "", f"the packet has {many}: {self.place(left)}")
+                self.misfit("", "", f"the packet has {many}: {self.place(left)}")
         return content
 
-    def fault(self, name: str, path: str, reason: str) -> None:
+    def fault(self, name: str, path: str, reason: str) -> RawFault:
         """Notes the first fault, here."""
-        self.content.fault = self.content.fault or RawFault(name, path, self.head + self.at, reason)
+        made = RawFault(name, path, self.head + self.at, reason)
+        self.content.fault = self.content.fault or made
+        return made
+
+    def misfit(self, name: str, path: str, reason: str) -> None:
+        """Notes why the body is too short or too long."""
+        self.content.misfit = self.fault(name, path, reason)
 
     def place(self, width: int) -> str:
         """Bits of the packet in words."""
@@ -156,7 +166,7 @@ class _Reader:
             needs = f"{width} bit{'s' if width > 1 else ''}"
             has = f"{left} {'is' if left == 1 else 'are'} left"
             at = self.head + self.at
-            self.fault(name, path, f"the packet ends within {name}, which needs {needs} from bit {at} on: {has}")
+            self.misfit(name, path, f"the packet ends within {name}, which needs {needs} from bit {at} on: {has}")
             raise _End
         return self.bits[self.at : self.at + width]
 

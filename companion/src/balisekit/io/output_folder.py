@@ -40,7 +40,7 @@ class OutputFolder:
 
     def _check(self) -> None:
         if self.path == "-":
-            raise TableError(f"several pictures cannot go to standard output: {NEW}")
+            raise TableError(f"several files cannot go to standard output: {NEW}")
         folder = self.target
         if os.path.isdir(folder):
             if os.listdir(folder):

@@ -125,6 +125,15 @@ def kilometre_of(group: Group) -> Optional[Decimal]:
     return next((row.km for row in group.each_row if row.km is not None), None)
 
 
+def without(original: Original, group: Group) -> Optional[Change]:
+    """The table without a group. The rows to correct are those of its neighbours."""
+    lost = frozenset(row.number for row in group.each_row)
+    place = original.groups.index(group)
+    beside = [*original.groups[max(place - 1, 0) : place], *original.groups[place + 1 : place + 2]]
+    others = frozenset(row.number for each in beside for row in each.each_row)
+    return Change(f"{named(group)} is missing", others, lost=lost) if others else None
+
+
 def moved(group: Group, kilometres: Decimal) -> Change:
     """The change of all kilometres of a group by so much."""
     cells = {row.number: {"km": row.km + kilometres} for row in group.each_row if row.km is not None}

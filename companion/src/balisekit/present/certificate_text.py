@@ -2,7 +2,7 @@
 from __future__ import annotations
 
 from datetime import datetime
-from typing import Iterator, List, Mapping, Tuple
+from typing import Iterator, List, Mapping, Sequence, Tuple
 
 from balisekit.certificate.certificate import Certificate, Score
 from balisekit.certificate.judging import Answer, Judgement
@@ -24,8 +24,8 @@ RULES = 4
 HEADINGS = ("tried", "found", "elsewhere", "hinted", "not found", "found %")
 
 
-def lines(made: Certificate) -> Iterator[str]:
-    """The certificate in words."""
+def lines(made: Certificate, written: Sequence[str] = ()) -> Iterator[str]:
+    """The certificate in words. `written` says which examples are in files."""
     checked = made.outcome.checked
     yield head_line(checked.table)
     yield from opening_of(checked.program, checked.settings)
@@ -36,6 +36,7 @@ def lines(made: Certificate) -> Iterator[str]:
         yield from [f"    {clean(example[1].sentence)}"] if example[1].sentence else []
     yield from _table("kind of mistake", made.by_kind())
     yield from _table("variable", made.by_field())
+    yield from written
     yield from counted_apart(made)
     yield NO_STATEMENT
     yield last_line(made)

@@ -80,6 +80,11 @@ def entry_lines(entry: Entry, with_folded: bool = False) -> List[str]:
     return [words(entry), *(f"    {line}" for line in below)]
 
 
+def entries_counted(count: int) -> str:
+    """So many entries, in words."""
+    return f"{count} {'entry' if count == 1 else 'entries'}"
+
+
 def folded_lines(entry: Entry, each: bool = True) -> Iterator[str]:
     """How many findings and remarks are folded below an entry, by rule, then `each` of them."""
     if not entry.folded:
@@ -88,7 +93,7 @@ def folded_lines(entry: Entry, each: bool = True) -> Iterator[str]:
     rules += [folded.rule for folded in entry.folded if folded.remark]
     counts = ", ".join(f"{rule} {count}" for rule, count in Counter(rules).items())
     gone = "" if entry.expected else ", gone if it is corrected"
-    number = f"folded below it: {len(entry.folded)} entries ({counts}){gone}"
+    number = f"folded below it: {entries_counted(len(entry.folded))} ({counts}){gone}"
     yield number if each else f"{number}{SHOW_FOLDED}"
     yield from (f"  {words(folded)}" for folded in entry.folded if each)
 

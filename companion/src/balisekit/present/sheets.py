@@ -6,7 +6,7 @@ from typing import Iterator, List, Union
 from balisekit.compare.sheet import COLUMNS, Compared, Difference, Sheet
 from balisekit.io import csv_writing, xlsx_writing
 from balisekit.present.account_text import overlooked_lines
-from balisekit.present.headings import added
+from balisekit.present.headings import added, entries_counted
 from balisekit.present.opening import opening, paths_from
 from balisekit.present.outcome_text import Kind, lines_but
 from balisekit.present.refusals import lacking, refused_lines
@@ -18,7 +18,7 @@ from balisekit.tables.names import clean, describe_balise, quoted
 NUMBERS = ("balise", "raw", "value")
 """The columns whose numbers are stored as numbers in an .xlsx."""
 ENTRIES = ("rule", "urgency", "identity", "group", "rows", "values", "sentence", "owner", "state", "reason")
-FOLDED_ABOVE = "{} entries are folded below it, in the next rows"
+FOLDED_ABOVE = "folded below it, in the next rows: {}"
 WIDTHS = (6, 18, 12, 24, 12, 32, 80, 16, 10, 40)
 """Of the columns of ENTRIES, in characters."""
 
@@ -88,7 +88,7 @@ def entries_pieces(outcome: Outcome) -> Iterator[bytes]:
 
 def _rows(outcome: Outcome, entry: Entry) -> Iterator[List[str]]:
     """An entry, and the entries that are folded below it."""
-    yield _row(outcome, entry, FOLDED_ABOVE.format(len(entry.folded)) if entry.folded else "")
+    yield _row(outcome, entry, FOLDED_ABOVE.format(entries_counted(len(entry.folded))) if entry.folded else "")
     yield from (_row(outcome, folded, state="folded") for folded in entry.folded)
 
 

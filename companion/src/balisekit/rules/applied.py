@@ -48,22 +48,24 @@ def look_for(
     line: Line, options: Options, rules: Sequence[Rule], notes: Notes = no_notes, passed_over: Find = nothing
 ) -> Applied:
     """Applies these rules to a line."""
-    results = {rule: _with_causes(line, rule, rule.find(line, options)) for rule in rules}
-    _name_causes({rule.name: rule for rule in results}, results)
+    results = dict(results_of(line, options, rules))
     said = (*notes(line), *(note for result in results.values() for note in result.notes))
     return Applied(line, results, said, tuple(passed_over(line)))
 
 
-def _name_causes(rules: Mapping[str, Rule], results: Dict[Rule, Result]) -> None:
-    """Remarks on a field of a row that an earlier rule blames say so: one correction may be enough for both."""
+def results_of(line: Line, options: Options, rules: Sequence[Rule]) -> Iterator[Tuple[Rule, Result]]:
+    """What each of these rules has found, one rule after the other.
+
+    Remarks on a field of a row that an earlier rule blames say so: one correction may be enough for both.
+    """
     blamed: Dict[Field, str] = {}
-    for name in BY_FIELD if sum(bool(rules.get(name) and results[rules[name]].found) for name in BY_FIELD) > 1 else ():
-        rule = rules.get(name)
-        if rule is not None:
-            found = results[rule].found
-            results[rule] = results[rule]._replace(found=[_with_field(each, blamed) for each in found])
-            for field in (field for each in found for field in each.blamed):
-                blamed.setdefault(field, name)
+    for rule in rules:
+        result = _with_causes(line, rule, rule.find(line, options))
+        if rule.name in BY_FIELD:
+            result = result._replace(found=[_with_field(each, blamed) for each in result.found])
+            for field in (field for each in result.found for field in each.blamed):
+                blamed.setdefault(field, rule.name)
+        yield rule, result
 
 
 def _with_field(remark: Remark, blamed: Mapping[Field, str]) -> Remark:

@@ -8,16 +8,16 @@ import time
 from dataclasses import dataclass, replace
 from datetime import date
 from functools import cached_property, partial
-from typing import AbstractSet, Iterator, List, Mapping, NamedTuple, Optional, Sequence, Tuple
+from typing import AbstractSet, Iterable, Iterator, List, Mapping, NamedTuple, Optional, Sequence, Tuple
 
 from balisekit.engine.grammar import Verdict
 from balisekit.rules import links, meaning, track_plan
 from balisekit.rules.accepted import RULES, Acceptance, Entries, Item, Judged, identities, judge
-from balisekit.rules.applied import Applied, Notes, look_for, no_notes
+from balisekit.rules.applied import Applied, Notes, look_for, no_notes, results_of
 from balisekit.rules.checking import Checked, Place, check
 from balisekit.rules.corrections import SUGGESTIONS
 from balisekit.rules.corrections.correction import Correction, Evidence
-from balisekit.rules.corrections.trying import LEAST, Again, Answer, explained
+from balisekit.rules.corrections.trying import Again, Answer, explained
 from balisekit.rules.discovery import ADDED, first_to_last, letter_of
 from balisekit.rules.entries import Entry, entries, entry_of, with_stop_aspects
 from balisekit.rules.line import Line
@@ -243,12 +243,13 @@ def apply(
     time.perf_counter(): that time belongs to the first part. Without `with_causes` no entry stands for several others
     that one correction explains.
     """
-    has_kilometres = any(row.km is not None for row in checked.table.rows)
     known = families(options)
     asked = [family for letter, family in known.items() if letter in letters]
-    able = [family if has_kilometres else _without_kilometres(family) for family in asked]
+    able = _able(checked, asked)
     applied = [family for family in able if family.rules or family.letter == PROVED]
-    checked, parts = _without_doubtful(checked, list(_looked_at(checked, applied, options, began)))
+    parts = list(_looked_at(checked, applied, options, began))
+    checked = _without_doubtful(checked, [item for part in parts for item in part.items if isinstance(item, Remark)])
+    parts = [part._replace(items=checked.findings) if part.family.letter == PROVED else part for part in parts]
     items = [item for part in parts for item in part.items]
     judged = judge(items, checked, *signed, partial(_is_in_full, applied, options)) if signed else None
     applied_rules = {rule.name for family in asked for rule in family.rules}
@@ -257,29 +258,33 @@ def apply(
     outside = sorted((options.asked & on) - applied_rules)
     found = [_with_entries(checked, part, judged) for part in parts]
     if with_causes:
-        found = _with_causes(checked, found, partial(_judged_again, checked, letters, options), options)
+        found = _with_causes(checked, found, partial(_judged_again, checked, asked, options), options)
         found = [part._replace(open=with_stop_aspects(part.open), accepted=part.accepted) for part in found]
     return Outcome(checked, found, judged, able != asked, off, options.replaced, outside)
+
+
+def _able(checked: Checked, asked: Sequence[Family]) -> Sequence[Family]:
+    """These families with the rules that can be applied to the table."""
+    has_kilometres = any(row.km is not None for row in checked.table.rows)
+    return asked if has_kilometres else [_without_kilometres(family) for family in asked]
 
 
 OF_ITS_ASPECT = frozenset({"stop aspect", "earlier group", "default aspect", "one controlled balise"})
 """The rows of the table of findings on correct data that rest on what the aspect is."""
 
 
-def _without_doubtful(checked: Checked, parts: Sequence[Part]) -> Tuple[Checked, List[Part]]:
+def _without_doubtful(checked: Checked, remarks: Iterable[Remark]) -> Checked:
     """The same. No finding is called correct data if a remark is about the aspect or the telegram that it rests on."""
-    remarks = [item for part in parts for item in part.items if isinstance(item, Remark)]
     doubted = {row for remark in remarks if remark.rule[0] in DOUBTING for row in _own_rows(remark)}
     if doubted.isdisjoint(row for place in checked.findings if place.correct for row in _rows_of_aspect(place)):
-        return checked, list(parts)
+        return checked
     findings = tuple(
         place._replace(correct="")
         if place.correct in OF_ITS_ASPECT and not doubted.isdisjoint(_rows_of_aspect(place))
         else place
         for place in checked.findings
     )
-    same = [part._replace(items=findings) if part.family.letter == PROVED else part for part in parts]
-    return replace(checked, findings=findings), same
+    return replace(checked, findings=findings)
 
 
 def _own_rows(remark: Remark) -> Sequence[int]:
@@ -295,17 +300,26 @@ def _rows_of_aspect(place: Place) -> Iterator[int]:
     return (row.number for aspect in some for row in aspect.rows if row.aspect != EVERY)
 
 
-def _judged_again(checked: Checked, letters: Sequence[str], options: Options, table: Table) -> Answer:
-    """What the same rules find of a corrected table, whatever was accepted."""
+def _judged_again(checked: Checked, asked: Sequence[Family], options: Options, table: Table) -> Iterator[Answer]:
+    """What the same rules find of a corrected table, whatever was accepted: those first that most corrections break.
+
+    Nobody asks for the rest of an answer that has a new entry. The program's findings may rest on remarks.
+    """
     made = check(checked.program, table, checked.messages, table.reading.by_position)
-    return _answer(apply(made, letters, options, with_causes=False).parts, made)
+    yield Answer(refused=_refused(made))
+    line = Line.of(made, options.jumps)
+    remarks: List[Remark] = []
+    for family in sorted(_able(made, asked), key=lambda each: (each.letter not in DOUBTING, each.letter)):
+        if family.letter == PROVED:
+            yield Answer(entries(_without_doubtful(made, remarks)))
+        for rule, result in results_of(line, options, family.rules):
+            remarks += result.found
+            yield Answer(list(map(entry_of_remark, result.found)), {rule.name: result.skipped})
 
 
-def _answer(parts: Sequence[Part], checked: Checked) -> Answer:
-    """What corrections are compared by."""
-    skipped = {rule.name: each.skipped for part in parts if part.applied for rule, each in part.applied.results.items()}
-    refused = len(checked.refused) + len(checked.left_out) + checked.not_looked_at
-    return Answer([entry for part in parts for entry in part.entries], skipped, refused)
+def _refused(checked: Checked) -> int:
+    """How many telegrams and groups were refused, left out or not tried."""
+    return len(checked.refused) + len(checked.left_out) + checked.not_looked_at
 
 
 def _with_causes(checked: Checked, parts: Sequence[Part], again: Again, options: Options) -> List[Part]:
@@ -313,10 +327,11 @@ def _with_causes(checked: Checked, parts: Sequence[Part], again: Again, options:
     own = [part for part in parts if part.family.letter != ADDED]
     still_open = [entry for part in own for entry in part.open if not entry.expected]
     line = next((part.applied.line for part in parts if part.applied), None)
-    if len(still_open) < LEAST or line is None:
+    if not still_open or line is None:
         return list(parts)
-    evidence = Evidence(checked, line, options, still_open)
-    found = explained(evidence, _answer(parts, checked), again, SUGGESTIONS)
+    skipped = {rule.name: each.skipped for part in parts if part.applied for rule, each in part.applied.results.items()}
+    before = Answer([entry for part in parts for entry in part.entries], skipped, _refused(checked))
+    found = explained(Evidence(checked, line, options, still_open), before, again, SUGGESTIONS)
     made = [_standing_for(checked, *each) for each in found]
     line.for_pictures()
     folded = {id(entry) for cause in made for entry in cause.folded}

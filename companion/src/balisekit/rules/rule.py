@@ -97,6 +97,8 @@ class Options(NamedTuple):
     """The track plan, for the rules X."""
     added: Tuple[Rule, ...] = ()
     """The rules that the user adds."""
+    layouts: FrozenSet[int] = frozenset()
+    """The raw packets whose layouts the project has compared with its print, by NID_PACKET."""
     replaced: Tuple[str, ...] = ()
     """The files and packages with rules that the settings name, and in whose place the command line names others."""
 

@@ -39,7 +39,7 @@ class Found(NamedTuple):
 
 
 STATED = {
-    CHECK_TABLE: ("line_speed", "release_speed", "tolerance", "jumps", "plan", "rules", "rules_from"),
+    CHECK_TABLE: ("line_speed", "release_speed", "tolerance", "jumps", "plan", "rules", "rules_from", "layouts"),
     REPORT_TABLE: ReportHeading._fields,
 }
 """The tables by which a project states something, and the keys of each."""

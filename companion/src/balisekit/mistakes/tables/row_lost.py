@@ -11,14 +11,20 @@ from __future__ import annotations
 from typing import Optional
 
 from balisekit.mistakes.mistake import Change
-from balisekit.mistakes.of_rows import mistake_of, rows_of
+from balisekit.mistakes.of_rows import mistake_of, rows_of, without
 from balisekit.mistakes.original import Original
 from balisekit.tables.model import Row
 
 
 def altered(original: Original, row: Row) -> Optional[Change]:
-    """The table without a row. The rows to correct are those of its group, since the row itself is gone."""
-    others = frozenset(each.number for each in original.group_of[row.number].each_row if each is not row)
+    """The table without a row. The rows to correct are those of its group, since the row itself is gone.
+
+    If the group has no other row, it is gone too, and they are those of its neighbours.
+    """
+    group = original.group_of[row.number]
+    others = frozenset(each.number for each in group.each_row if each is not row)
+    if not others:
+        return without(original, group)
     return Change(f"row {row.number} is missing", others, lost=frozenset({row.number}))
 
 

@@ -7,10 +7,21 @@ from __future__ import annotations
 
 from typing import Sequence
 
-from balisekit.rules.corrections import balises, counters, identities, kilometres, links, packets, places, telegrams
+from balisekit.rules.corrections import (
+    balises,
+    counters,
+    headers,
+    identities,
+    kilometres,
+    links,
+    packets,
+    places,
+    telegrams,
+)
 from balisekit.rules.corrections.correction import Suggest
 
 SUGGESTIONS: Sequence[Sequence[Suggest]] = (
+    (headers.suggest,),
     (
         kilometres.suggest,
         balises.suggest,
@@ -22,4 +33,4 @@ SUGGESTIONS: Sequence[Sequence[Suggest]] = (
     ),
     (places.suggest,),
 )
-"""In the order in which they are tried: what would be right, then where the mistake is."""
+"""In the order in which they are tried: what the rest of the table shows, what would be right, where the mistake is."""

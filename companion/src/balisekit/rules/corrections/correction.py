@@ -34,6 +34,8 @@ class Correction(NamedTuple):
     """The values of the sentence, by their names."""
     lost: Tuple[int, ...] = ()
     """The rows that would not be there."""
+    least: int = 2
+    """How many entries it must explain: the entry itself says as much as a correction that explains one."""
     is_only_place: bool = False
     """Whether it shows only where the mistake is: nobody knows what would be right."""
 

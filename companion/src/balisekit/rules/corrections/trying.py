@@ -7,8 +7,22 @@ from __future__ import annotations
 import re
 from collections import Counter
 from dataclasses import replace
+from functools import partial
 from itertools import islice
-from typing import Any, Callable, Dict, FrozenSet, Iterator, List, Mapping, NamedTuple, Optional, Sequence, Tuple
+from typing import (
+    Any,
+    Callable,
+    Dict,
+    FrozenSet,
+    Iterable,
+    Iterator,
+    List,
+    Mapping,
+    NamedTuple,
+    Optional,
+    Sequence,
+    Tuple,
+)
 
 from balisekit.engine.program import Program, Text
 from balisekit.errors import TableError, TableErrors
@@ -17,24 +31,22 @@ from balisekit.rules.entries import Entry
 from balisekit.tables.changed import changed_table
 from balisekit.tables.model import Table
 
-MOST, TELEGRAMS = 40, 6_000
-"""How many corrections of one stage are tried at most, and how many telegrams are judged again for them at most."""
+MOST, JUDGED = 40, 6_000
+"""How many corrections of one stage are tried at most, and how many telegrams and entries are made again for them."""
 OF_PROFILES = {10: (12, 15, 21), 11: (12, 15, 21), 12: (12, 15, 27), 13: (12, 15, 27)}
 """The packets that findings of profiles compare, by the rule F."""
 STRANGE = "other_NID_C"
 """A value of the finding F3 of one telegram with another identity than all others of its group."""
-LEAST = 2
-"""A correction that explains fewer entries is none: the entry itself says as much."""
 NUMBER = re.compile(r"[+-]?\d(?:[\d.,]*\d)?")
 
 
 class Answer(NamedTuple):
-    """What the check says of a corrected table."""
+    """What the check, or a part of it, says of a table."""
 
-    entries: Sequence[Entry]
-    skipped: Mapping[str, int]
+    entries: Sequence[Entry] = ()
+    skipped: Mapping[str, int] = {}
     """How many things each rule has not looked at."""
-    refused: int
+    refused: int = 0
     """How many telegrams and groups were refused or left out."""
 
 
@@ -45,7 +57,9 @@ class Explained(NamedTuple):
     entries: Sequence[Entry]
 
 
-Again = Callable[[Table], Answer]
+Key = Tuple[Any, ...]
+Again = Callable[[Table], Iterator[Answer]]
+"""What parts of the check, one after the other, say of a corrected table. No two of them have entries of one rule."""
 
 
 def explained(
@@ -56,11 +70,14 @@ def explained(
     Of the corrections of one stage those that explain most entries count.
     """
     found: List[Explained] = []
+    most = min(MOST, JUDGED // max(len(evidence.checked.table.rows) + len(before.entries), 1))
+    had = Counter(map(_key, before.entries if most else ()))
     for stage in suggestions:
-        if len(evidence.entries) < LEAST:
+        if not evidence.entries or len(evidence.entries) == 1 and stage is not suggestions[0]:
             break
-        tried = sorted(_of_stage(evidence, before, again, stage), key=lambda each: -len(each.entries))
-        for each in _united(tried):
+        some = islice((each for suggest in stage for each in suggest(evidence)), most)
+        tried = _of_stage(evidence, some, partial(_gone, evidence, before, had, again))
+        for each in _united(sorted(tried, key=lambda each: -len(each.entries))):
             still_open = {id(entry) for entry in evidence.entries}
             if all(id(entry) in still_open for entry in each.entries):
                 found.append(each)
@@ -69,15 +86,18 @@ def explained(
     return found
 
 
-def _of_stage(evidence: Evidence, before: Answer, again: Again, stage: Sequence[Suggest]) -> Iterator[Explained]:
+def _of_stage(
+    evidence: Evidence, some: Iterable[Correction], gone_with: Callable[[Correction], Sequence[Entry]]
+) -> Iterator[Explained]:
     """The corrections of a stage that explain several entries. After one that explains all, only its like is tried."""
-    most = min(MOST, TELEGRAMS // max(len(evidence.checked.table.rows), 1))
     like: Optional[Correction] = None
-    for correction in islice((each for suggest in stage for each in suggest(evidence)), most):
+    for correction in some:
         if like is not None and not correction.is_like(like):
             break
-        gone = _gone(evidence, before, _tried(evidence, correction, again))
-        if len(gone) >= LEAST and (not correction.is_only_place or is_of_one_packet(gone)):
+        if len(evidence.entries) < correction.least:
+            continue
+        gone = gone_with(correction)
+        if len(gone) >= correction.least and (not correction.is_only_place or is_of_one_packet(gone)):
             yield Explained(correction, gone)
         like = correction if len(gone) == len(evidence.entries) else like
 
@@ -111,18 +131,28 @@ def _packets(entry: Entry) -> FrozenSet[int]:
     return own | frozenset(each for place in entry.findings for each in OF_PROFILES.get(place.finding.rule, ()))
 
 
-def _tried(evidence: Evidence, correction: Correction, again: Again) -> Optional[Answer]:
-    """What the check says of the corrected table. None if nobody can write it."""
-    table = evidence.checked.table
+def _gone(evidence: Evidence, before: Answer, had: "Counter[Key]", again: Again, correction: Correction) -> List[Entry]:
+    """The open entries that are gone with a correction, if there is no new one and nothing is judged less."""
     texts = _texts(evidence.checked.program, correction)
-    if texts is None:
-        return None
-    cells = {row: {**correction.cells.get(row, {}), **texts.get(row, {})} for row in {*correction.cells, *texts}}
+    if texts is None:  # (nobody can write it)
+        return []
+    left = had.copy()
     try:
-        made = changed_table(table, cells, correction.lost, table.reading.by_position)
-        return again(_in_order(made, correction))
+        for answer in again(_corrected(evidence.checked.table, correction, texts)):
+            has = Counter(map(_key, answer.entries))
+            less = any(count > before.skipped.get(rule, 0) for rule, count in answer.skipped.items())
+            if less or answer.refused > before.refused or has - had:
+                return []
+            left.subtract(has)
     except (TableError, TableErrors):
-        return None
+        return []
+    return list(_missing(evidence.entries, left))
+
+
+def _corrected(table: Table, correction: Correction, texts: Mapping[int, Mapping[str, Any]]) -> Table:
+    """The table with a correction."""
+    cells = {row: {**correction.cells.get(row, {}), **texts.get(row, {})} for row in {*correction.cells, *texts}}
+    return _in_order(changed_table(table, cells, correction.lost, table.reading.by_position), correction)
 
 
 def _texts(program: Program, correction: Correction) -> Optional[Dict[int, Mapping[str, Any]]]:
@@ -141,19 +171,7 @@ def _in_order(table: Table, correction: Correction) -> Table:
     return replace(table, groups=groups)
 
 
-def _gone(evidence: Evidence, before: Answer, after: Optional[Answer]) -> List[Entry]:
-    """The open entries that are gone, if there is no new one and nothing is judged less."""
-    if after is None or after.refused > before.refused:
-        return []
-    if any(count > before.skipped.get(rule, 0) for rule, count in after.skipped.items()):
-        return []
-    had, has = (Counter(map(_key, answer.entries)) for answer in (before, after))
-    if has - had:
-        return []
-    return list(_missing(evidence.entries, had - has))
-
-
-def _missing(entries: Sequence[Entry], gone: "Counter[Tuple[Any, ...]]") -> Iterator[Entry]:
+def _missing(entries: Sequence[Entry], gone: "Counter[Key]") -> Iterator[Entry]:
     for entry in entries:
         key = _key(entry)
         if gone[key] > 0:
@@ -161,7 +179,7 @@ def _missing(entries: Sequence[Entry], gone: "Counter[Tuple[Any, ...]]") -> Iter
             yield entry
 
 
-def _key(entry: Entry) -> Tuple[Any, ...]:
+def _key(entry: Entry) -> Key:
     """What tells an entry from others. Its numbers do not: it is the same one with another distance."""
     group, message = entry.group.name if entry.group else None, entry.message.number if entry.message else None
     words = NUMBER.sub("0", entry.sentence)

@@ -11,6 +11,7 @@ announced place. The rule rests on SUBSET-026, 5.10 and 7.4.2.
 - If there are several orders, the one with the most announcements of its place counts as right, or else the first one
   that a train passes. If there is no order, the most frequent place counts.
 - A later order with the same levels is not reported, because it repeats the first one.
+- Announcements of one place with the same levels must have the same L_ACKLEVELTR.
 - An order is only required between the first and the last group of the track.
 - A missing order is not reported if it might be in a group whose direction or place is unknown, or which has a refused
   telegram. The same holds if the packets 5 of the announcement lead to another track, where the order might be.
@@ -25,7 +26,8 @@ km 16.750, and the group Border orders it at km 16.700. After: D_LEVELTR is 2,20
 When it is a false alarm. The rule assumes that all packets 41 within 500 m are for one border. There might be two
 borders, one of them on another route, or orders for trains that start there. It assumes that all of them lead to one
 place. A packet with D_LEVELTR 0 or 32,767 might be some metres from the border. It assumes that all of them have the
-same levels, but announcement and border might differ on purpose. It assumes that a group of the table orders the
+same levels, but announcement and border might differ on purpose. It assumes that drivers acknowledge in one area, but
+L_ACKLEVELTR might depend on the speed at each signal. It assumes that a group of the table orders the
 change, but the last announcement might be the only order. Trains might also leave the track: they can run through a
 loop, or take a route to another track that no packet 5 shows. {kilometres} {missing}
 
@@ -41,6 +43,7 @@ How sure. 88 %, by practice and memory of the standard.
 from __future__ import annotations
 
 from collections import Counter
+from decimal import Decimal
 from typing import Iterator, Optional, Sequence, Tuple
 
 from balisekit.etcs.variables import metres
@@ -67,7 +70,7 @@ def find(line: Line, options: Options) -> Result:
         leaving[ANOTHER_TRACK] += len(orders) - len(staying)
         for part in parts(staying, NEAR):
             usual = _usual(part)
-            found += list(_compare(decoded, options, part, usual, unknown))
+            found += [*_compare(decoded, options, part, usual, unknown), *_lengths(part)]
             found += [] if usual.is_now else list(_unordered(decoded, usual, unknown))
     return Result.of_places(merged(found), looked_at, unplaced_orders(decoded), leaving)
 
@@ -117,6 +120,29 @@ def _compare(
         values = {**order.values(), **usual.values("other_")}
         marks = [(order.packet.row, where.direction, abs(order.place - (order.passage.place(0) or 0)))]
         yield Remark("E18", where, sentence, None, values, compared=compared, marks=marks)
+
+
+def _lengths(orders: Sequence[Order]) -> Iterator[Remark]:
+    """The announcements of one place whose L_ACKLEVELTR is not the most frequent one."""
+    announced = [order for order in orders if not order.is_now]
+    counts = Counter((order.place, *_acknowledged(order)) for order in announced)
+    for order in announced:
+        others = [each for each in announced if (each.place, each.levels) == (order.place, order.levels)]
+        usual = max(others, key=lambda each: counts[(each.place, *_acknowledged(each))])
+        for place, (own, other) in enumerate(zip(_acknowledged(order), _acknowledged(usual))):
+            if own != other:
+                words = f"L_ACKLEVELTR is {metres(own)}, and {metres(other)} by {source(usual.passage, usual.packet)}"
+                values = {"l_ackleveltr_m": Decimal(own) / 10, "other_l_ackleveltr_m": Decimal(other) / 10}
+                where, compared = order.passage.at(order.packet), [usual.passage.at(usual.packet)]
+                made = Remark("E18", where, words, None, values, compared=compared)
+                row = order.packet.row
+                fields = [(row.number, order.packet.place, "l_ackleveltr", place)] if row else []
+                yield made._replace(blamed=fields)
+
+
+def _acknowledged(order: Order) -> Sequence[int]:
+    """Each L_ACKLEVELTR in decimetres."""
+    return [each["l_ackleveltr"] * order.packet.unit for each in order.packet.form["transitions"]]
 
 
 def _unordered(decoded: Decoded, usual: Order, unknown: Unknown) -> Iterator[Remark]:

@@ -1,56 +1,99 @@
 """E1: raw packet that does not fit its layout.
 
-What it says. A raw packet to trains does not fit balisekit's layout of this packet, or contains a spare value. The
-remark names the first place that does not fit. The rule rests on SUBSET-026, 7.4 and 7.5.1.
-- A packet does not fit if it has fewer or more bits than its layout.
+What it says. A raw packet to trains does not fit balisekit's layout of this packet, contains a spare value, or has a
+number that no packet has. The remark names the first place that does not fit. The rule rests on SUBSET-026, 7.4 and
+7.5.1.
+- A packet does not fit if it has fewer or more bits than its layout. The layouts are balisekit's own, and nobody has
+  compared them with a printed standard.
+- If two forms of a packet are possible, as for the packets 3 and 6, a packet does not fit if it fits neither. The
+  packets 13, 52 and 180 are not compared, because their lengths are not sure.
 - Spare values are an M_LEVELTR from 5 to 7, a Q_SCALE 3, an M_MAMODE 3, and a speed number above 120 (600 km/h) that
-  has no special meaning.
-- The layouts are balisekit's own, and nobody has compared them with a printed standard. Only layouts that are at least
-  97 % certain are used.
+  has no special meaning. They are reported only if the layout is at least 97 % certain.
+- A project can state with `layouts` in `[check]` which packets it has compared with its print. Then they are compared
+  completely, even if their layout is not certain.
+- A number that no packet has is one that is in no issue of the standard for system versions 1 and 2.
 
 Why it matters. At worst the train gets wrong information: it takes the bits of one variable for another. Or it rejects
-the message.
+the message, or ignores the packet.
 
 Example. Before (`examples/meaning/mistakes/E1.csv`): the packet 65 of Signal 3 (km 13.003) has 8 bits more than its
 layout, and its L_PACKET is 79 bits. After: the packet ends with its layout, and L_PACKET is 71.
 
 When it is a false alarm. Never, if the layout and its spare numbers are those of the standard. If your print shows
-another layout, the remark is wrong.
+another layout, the remark is wrong. The same holds for a packet number of a later system version.
 
-Usual cause. The body was made by hand or with another tool. Or L_PACKET was not adapted. Or a condition, such as
-Q_NEWCOUNTRY or N_ITER, does not fit what follows.
+Usual cause. The body was made by hand or with another tool, or has the form of system version 1. Or L_PACKET was not
+adapted. Or a condition, such as Q_NEWCOUNTRY or N_ITER, does not fit what follows.
 
 How to correct it. Generate the packet again, with the bits of the layout that `balisekit show` writes.
 
 How to accept it. Quote the section of the printed standard that has another layout.
 
-How sure. 97 %, by practice and memory of the standard.
+How sure. 97 %, by practice and memory of the standard. If a layout is less certain, the remark says how certain it is.
+Numbers that no packet has are 90 % sure.
 """
 from __future__ import annotations
 
 from decimal import Decimal
+from typing import Iterator, Optional
 
-from balisekit.etcs.raw_layouts import layouts
-from balisekit.etcs.raw_packets import fault_of
+from balisekit.etcs.raw_layouts import Layout, layouts
+from balisekit.etcs.raw_packets import RawFault, content_of
 from balisekit.rules.line import Line
 from balisekit.rules.meaning.sent import Fault, located, remark, sent
-from balisekit.rules.rule import Options, Result, Rule, Urgency
+from balisekit.rules.rule import Options, Remark, Result, Rule, Urgency
+from balisekit.rules.telegrams import Packet
+
+DOUBTFUL = 85
+"""A layout that is less sure, in per cent, may have another length."""
+MAY_FOLLOW = {3: 8, 6: 8}
+"""The bits of M_NVKTINT and T_VBC, of which it is not sure that a condition leaves them out."""
+READ = frozenset({0, 5, 12, 15, 21, 27, 41, 255})
+"""The packets that the program reads, and the end of a telegram."""
 
 
 def find(line: Line, options: Options) -> Result:
-    """Looks at each packet that is kept as bits and whose layout is certain."""
-    numbers = sorted(layout.number for layout in layouts().values() if layout.from_track and layout.is_certain)
+    """Looks at each packet that is kept as bits."""
+    known = {layout.number: layout for layout in layouts().values() if layout.from_track}
     found, count = [], 0
-    for owner, packet in sent(line.decoded, *numbers):
-        if "body" not in packet.form:
-            continue
-        count += 1
-        fault = fault_of(packet.form)
-        if fault is not None:
-            values = {"bits": Decimal(packet.form["l_packet"]), "first_bit": Decimal(fault.at)}
-            words = f"{fault.reason}; its L_PACKET is {packet.form['l_packet']} bits"
-            found.append(remark("E1", located(owner, packet), [Fault(words, values)]))
-    return Result(found, count)
+    for number, layout in sorted(known.items()):
+        is_full = layout.is_certain or number in options.layouts
+        if is_full or layout.sure >= DOUBTFUL:
+            for owner, packet in sent(line.decoded, number):
+                if "body" not in packet.form:
+                    continue
+                count += 1
+                fault = _fault(packet, layout, is_full)
+                if fault is not None:
+                    is_sure = layout.is_certain or number in options.layouts
+                    made = remark("E1", located(owner, packet), [_words(packet, fault, layout, is_sure)])
+                    found.append(made if is_sure else made._replace(urgency=Urgency.NOT_JUDGED))
+    unknown = list(_unknown(line, known.keys() | READ))
+    return Result([*found, *unknown], count + len(unknown))
+
+
+def _fault(packet: Packet, layout: Layout, is_full: bool) -> Optional[RawFault]:
+    """What does not fit: in full, or only a body that is too short or too long for each form of the packet."""
+    content = content_of(packet.form)
+    if content is None or is_full:
+        return content.fault if content else None
+    fits = content.left and content.left == MAY_FOLLOW.get(layout.number)
+    return None if fits else content.misfit
+
+
+def _words(packet: Packet, fault: RawFault, layout: Layout, is_sure: bool) -> Fault:
+    """The fault with the length of the packet, and how sure the layout is."""
+    values = {"bits": Decimal(packet.form["l_packet"]), "first_bit": Decimal(fault.at)}
+    doubt = "" if is_sure else f"; balisekit is {layout.sure} % sure of this layout"
+    return Fault(f"{fault.reason}; its L_PACKET is {packet.form['l_packet']} bits{doubt}", values)
+
+
+def _unknown(line: Line, known: "set[int]") -> Iterator[Remark]:
+    """Packets with a number that no packet has."""
+    for number in sorted(line.decoded.senders.keys() - known):
+        for owner, packet in sent(line.decoded, number):
+            words = f"no packet to trains has NID_PACKET {number} in system versions 1 and 2"
+            yield remark("E1", located(owner, packet), [Fault(words, {"nid_packet": Decimal(number)})])
 
 
 RULE = Rule("E1", "raw packets", __doc__ or "", find, Urgency.WRONG_INFORMATION)

@@ -1,31 +1,38 @@
 """E22: temporary speed restriction.
 
-What it says. Packets 65 have the same NID_TSR (below 255), but give different places, lengths or speeds. The proved
-program does not decode packet 65: balisekit decodes it by a layout of its own. The rule rests on SUBSET-026, 3.11.5 and
-7.4.2.
+What it says. Packets 65 have the same NID_TSR (below 255), but give different places, lengths or speeds, or a packet 65
+or 66 restricts or revokes nothing. The proved program does not decode these packets: balisekit decodes them by layouts
+of its own. The rule rests on SUBSET-026, 3.11.5 and 7.4.2.
 - The rule compares restrictions on one track, for trains that run the same way, if each begins at most 2 km from the
   next one. It does not matter which groups send them.
 - Place and L_TSR may differ by `--tolerance` (default 1 m) and rounding.
 - The most frequent restriction counts as right.
 - A group within the restriction might send only the rest of it. Such a packet has D_TSR 0, and it agrees if V_TSR and
   the end of the restriction are the same.
+- L_TSR is 0. Or V_TSR is above each V_STATIC of the table, which has at least five packets 27.
+- A packet 66 has NID_TSR 255, which nothing can revoke. Or its NID_TSR is in a packet 65 of its own telegram.
+- The table and the messages have packets 65 that can be revoked, and a packet 66 has an NID_TSR that none of them has.
+  A packet 65 counts for the packet 66 only if both are for trains that run the same way, as far as this is known.
 
-Why it matters. At worst the train gets wrong information: the restriction begins too late, ends too early, or has
-another speed.
+Why it matters. At worst the train gets wrong information: the restriction begins too late, ends too early, has another
+speed, or is not revoked.
 
 Example. Before (`examples/meaning/mistakes/E22.csv`): Signal 4 has restriction 7 at km 14.600, and Signal 2 has it at
 km 14.000, both for 500 m with 40 km/h. After: Signal 4 has no packet 65, because the restriction ends there.
 
 When it is a false alarm. The rule assumes that each NID_TSR belongs to one restriction only. Two restrictions might
 have the same number, if one of them is on another route. It assumes that all packets state the complete restriction
-exactly. D_TSR or L_TSR might be on the safe side, or might depend on the aspect or the route. {kilometres} {missing}
-{one way}
+exactly. D_TSR or L_TSR might be on the safe side, or might depend on the aspect or the route. It assumes that each
+packet 65 restricts trains, although a template might hold one ready without a length or with a great speed. It assumes
+that the table has the packet 65 for each packet 66, as soon as it has any. The packet 65 might be in a group that is
+laid for some weeks, or come by radio. {kilometres} {missing} {one way}
 
-Usual cause. D_TSR was not generated again for the second group. Or a restriction was changed in one group only.
+Usual cause. D_TSR was not generated again for the second group. Or a restriction was changed in one group only. Or an
+NID_TSR was typed wrongly.
 
 How to correct it. Correct D_TSR, L_TSR and V_TSR according to the list of restrictions.
 
-How to accept it. Name both restrictions in the list of restrictions, or the route of this one.
+How to accept it. Name both restrictions in the list of restrictions, the route of this one, or what else sends it.
 
 How sure. 86 %, by practice and memory of the standard.
 """
@@ -39,13 +46,14 @@ from balisekit.etcs.variables import Values, metres
 from balisekit.rules.decoded import Decoded, tolerance_of_lengths
 from balisekit.rules.line import Line
 from balisekit.rules.meaning.along import lane_of, parts, passed_over
+from balisekit.rules.meaning.revocations import NOT_REVOCABLE, RESTRICTION, without_effect, without_restriction
 from balisekit.rules.meaning.words import at_place, merged, source
 from balisekit.rules.passages import Passage
 from balisekit.rules.rule import Options, Remark, Result, Rule, Urgency
 from balisekit.rules.telegrams import Packet
 
-RESTRICTION, NOT_REVOCABLE, NEAR = 65, 255, 20_000
-"""NID_PACKET, NID_TSR without an identity, and how near in decimetres two places of one restriction are."""
+NEAR = 20_000
+"""How near in decimetres two places of one restriction are."""
 
 
 class Restriction(NamedTuple):
@@ -86,6 +94,7 @@ def find(line: Line, options: Options) -> Result:
         looked_at += len(some)
         for part in parts(some, NEAR):
             found += list(_compare(decoded, options, part))
+    found += [*without_effect(decoded, options.greatest_speed // 5), *without_restriction(decoded)]
     return Result(merged(found), looked_at, passed_over(decoded, _is_restriction))
 
 

@@ -6,10 +6,10 @@ that they have, or one of its values is another one. The rule rests on SUBSET-02
   aspect of this name. Infill groups and groups with a refused telegram do not count.
 - A packet 12, 21, 27 or 80 lacks if at least four of five signals have it. Any other packet lacks if all other signals
   have it in the balise with the aspects. Packet 5 is not compared.
-- T_OL, D_STARTOL, V_RELEASEOL, V_RELEASEDP, T_SECTIONTIMER, T_ENDTIMER, M_MAMODE and V_MAMODE are compared if at least
-  four other signals have them. All of these must have the same value, and no other aspect of the table may have the
-  value of this one. If no other signal has the D_OL or D_DP beside the value, the value is not compared. Neither is a
-  D_STARTOL that is equal to L_ENDSECTION.
+- T_OL, D_STARTOL, V_RELEASEOL, V_RELEASEDP, T_SECTIONTIMER, D_SECTIONTIMERSTOPLOC, T_ENDTIMER, D_ENDTIMERSTARTLOC,
+  M_MAMODE and V_MAMODE are compared if at least four other signals have them. All of these must have the same value,
+  and no other aspect of the table may have the value of this one. If no other signal has the D_OL or D_DP beside the
+  value, the value is not compared. Neither is a D_STARTOL that is equal to L_ENDSECTION.
 - V_MAIN is compared if at all other signals it is the greatest V_STATIC of the aspect, or else the same speed. A
   V_MAIN that is too low is only reported if the signal has another proceed aspect whose V_MAIN is as usual. One that
   differs from V_STATIC only, and that another aspect of the signal has too, is not reported. Neither is one that E2

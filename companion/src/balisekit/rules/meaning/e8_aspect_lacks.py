@@ -8,6 +8,8 @@ rule rests on SUBSET-026, 3.8.
   either direction is enough.
 - An aspect might also have such a packet for the wrong direction. It is reported if it is the only one with the packet
   for that direction, and at least two others have it only for the other direction.
+- A proceed aspect is also reported if it is the only one without a packet 39, 40, 51, 65, 67 to 71, 88, 138 or 139, and
+  two other aspects have it. The packets 5 and authorities must show that it leads to the end of one of these aspects.
 - A stop aspect has a packet 12 with V_MAIN 0 that does not follow a packet 136. It is reported if it has no packet 137,
   and at least four of five stop aspects of the table have one with "stop". The table must have at least five stop
   aspects for this.
@@ -24,7 +26,8 @@ the reverse direction. "Red" and "yellow" have them for the nominal one. After: 
 nominal.
 
 When it is a false alarm. The rule assumes that the aspects of a group need the same packets for one direction. An
-aspect for calling-on or for another route might need fewer. An aspect that only stops trains in the other direction
+aspect for calling-on or for another route might need fewer. A track condition might be announced at one aspect only on
+purpose, if the next signal sends it in time. An aspect that only stops trains in the other direction
 might also need fewer. The rule also assumes that all stop aspects of the table, in both directions, stop trains in
 staff responsible mode too. At some signals these trains are allowed to pass. Finally, it assumes that stop aspects of
 one name treat shunting alike, which is not so if shunting is allowed at some.
@@ -46,6 +49,7 @@ from balisekit.etcs.packets import packet_name
 from balisekit.rules.facts import counted, sender
 from balisekit.rules.line import Line
 from balisekit.rules.location import Location
+from balisekit.rules.meaning.lacking_conditions import lacking_conditions
 from balisekit.rules.meaning.siblings import AUTHORITY, SIBLINGS, Moving, Said, lacking_in, said_of, turned_in
 from balisekit.rules.passages import GroupData, Passage
 from balisekit.rules.rule import Options, Remark, Result, Rule, Urgency
@@ -62,7 +66,7 @@ def find(line: Line, options: Options) -> Result:
     groups = [
         data for data in line.decoded.controlled if len(data.group.group.aspects) >= SIBLINGS and not data.group.unread
     ]
-    found = [remark for data in groups for remark in _siblings(data)]
+    found = [remark for data in groups for remark in (*_siblings(data), *_conditions(line, options, data))]
     stops = [passage for data in line.decoded.speaking for passage in data.passages if _stops(passage)]
     return Result([*found, *_without_stop(stops), *_without_danger(stops)], len(groups))
 
@@ -79,6 +83,14 @@ def _siblings(data: GroupData) -> Iterator[Remark]:
         others = f"which all others with a V_MAIN above 0{among} have"
         words = f"lacks {_packets(numbers)} in {direction} direction, {others}"
         yield _remark(data, aspect, words, numbers, _facts(some, go))
+
+
+def _conditions(line: Line, options: Options, data: GroupData) -> Iterator[Remark]:
+    """The aspect that lacks track conditions."""
+    for passage, numbers, count in lacking_conditions(line, options, data):
+        words = f"lacks {_packets(numbers)} in {passage.direction} direction, which {count} other aspects have"
+        facts = [f"{each.aspect} {[packet.number for packet in each.said]}" for each in data.passages]
+        yield _remark(data, passage.aspect, words, numbers, facts)
 
 
 def _facts(said: Said, moving: Moving) -> Sequence[str]:

@@ -19,8 +19,8 @@ LEAST = 5
 KEYS: Mapping[str, Sequence[str]] = {
     "overlap": ("t_ol", "d_startol", "v_releaseol"),
     "danger_point": ("v_releasedp",),
-    "section_timer": ("t_sectiontimer",),
-    "end_timer": ("t_endtimer",),
+    "section_timer": ("t_sectiontimer", "d_sectiontimerstoploc"),
+    "end_timer": ("t_endtimer", "d_endtimerstartloc"),
     "elements": ("m_mamode", "v_mamode"),
 }
 """The parts of a packet 12 or 80 whose values are compared, and their keys."""

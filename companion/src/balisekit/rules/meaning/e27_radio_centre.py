@@ -1,0 +1,150 @@
+"""E27: radio block centres.
+
+What it says. Packets 42 (session management) or 131 (RBC transition order) contradict each other about a radio block
+centre (RBC), or NID_RADIO is no telephone number. The proved program does not decode these packets: balisekit decodes
+them by layouts of its own. The rule rests on SUBSET-026, 3.5, 3.15.1 and 7.5.1.
+- NID_RADIO has a digit from A to E, or an F before another digit. Sixteen F are the short number.
+- One RBC, by NID_C and NID_RBC, has different NID_RADIO. Or one NID_RADIO belongs to several RBC.
+- The most frequent number or RBC counts as right. If none is more frequent, the packet that comes later in the table is
+  reported.
+- Packets 131 for trains that run the same way on the same track give different places or different RBC, although these
+  places are at most 500 m apart. Places may differ by `--tolerance` (default 1 m) and rounding.
+- Packets 42 with Q_RBC 0, the short number, and NID_RBC 16,383 (the RBC that was known last) are not compared.
+
+Why it matters. At worst the train brakes without need. It calls a wrong number or a wrong RBC, and has no movement
+authority at the border.
+
+Example. Before (`examples/meaning/mistakes/E27.csv`): by Signal 3 (km 13.000) the RBC 1 of country 352 has the number
+0123465789, and by 2 other packets 0123456789. After: all packets have the same number.
+
+When it is a false alarm. The rule assumes that each RBC has one telephone number. An RBC might have several numbers,
+such as one for each of two radio networks. Two RBC might share a number during a change of systems. The rule assumes
+that packets 131 within 500 m are for one border. There might be two borders, one of them on another route. {kilometres}
+
+Usual cause. A digit of the number was typed wrongly. Or a number, NID_RBC or D_RBCTR was changed in one group only.
+
+How to correct it. Correct NID_RADIO, NID_C, NID_RBC or D_RBCTR according to the list of radio block centres.
+
+How to accept it. Name the list that gives this RBC two numbers, or the routes of both borders.
+
+How sure. 90 %, by practice and memory of the standard.
+"""
+from __future__ import annotations
+
+import re
+from collections import Counter
+from decimal import Decimal
+from typing import Any, Callable, Dict, Iterator, List, NamedTuple, Sequence
+
+from balisekit.rules.decoded import Owner
+from balisekit.rules.facts import counted, origin
+from balisekit.rules.line import Line
+from balisekit.rules.meaning.radio_borders import TRANSITION, Centre, borders, centre_words
+from balisekit.rules.meaning.sent import Fault, located, remark, sent
+from balisekit.rules.meaning.words import merged
+from balisekit.rules.rule import Options, Remark, Result, Rule, Urgency
+from balisekit.rules.telegrams import Packet
+from balisekit.tables.names import rows_words
+
+SESSION, LAST_KNOWN = 42, 16_383
+"""NID_PACKET of session management, and NID_RBC of the RBC that was known last."""
+SHORT, NUMBER = "f" * 16, re.compile("[0-9]+f*")
+
+
+class Call(NamedTuple):
+    """A packet that gives an RBC with its number."""
+
+    owner: Owner
+    packet: Packet
+
+    @property
+    def form(self) -> Any:
+        """Its fields."""
+        return self.packet.form
+
+    @property
+    def centre(self) -> Centre:
+        """The RBC."""
+        return self.form["nid_c"], self.form["nid_rbc"]
+
+    @property
+    def digits(self) -> str:
+        """NID_RADIO as 16 digits."""
+        return f"{self.form['nid_radio']:016x}"
+
+    @property
+    def is_compared(self) -> bool:
+        """Whether a train calls this number of this RBC."""
+        is_order = self.form.get("q_rbc", 1) == 1 and self.centre[1] != LAST_KNOWN
+        return is_order and self.digits != SHORT and bool(NUMBER.fullmatch(self.digits))
+
+
+def find(line: Line, options: Options) -> Result:
+    """Compares the numbers of the whole table, and the borders of each track."""
+    calls = [Call(*each) for each in sent(line.decoded, SESSION, TRANSITION) if "nid_radio" in each[1].form]
+    found = [
+        *_wrong_digits(calls),
+        *_unlike(calls, lambda each: each.centre, lambda each: each.digits, _number_words),
+        *_unlike(calls, lambda each: each.digits, lambda each: each.centre, _centre_words),
+        *borders(line.decoded, options),
+    ]
+    return Result(merged(found), len(calls))
+
+
+def _wrong_digits(calls: Sequence[Call]) -> Iterator[Remark]:
+    """Numbers that nobody can dial."""
+    for call in calls:
+        if call.digits != SHORT and not NUMBER.fullmatch(call.digits):
+            words = f"NID_RADIO is {call.digits.upper()}, which is no telephone number filled up with F"
+            yield _remark(call, Fault(words, {"nid_radio": Decimal(call.form["nid_radio"])}, [("nid_radio", None)]))
+
+
+def _unlike(
+    calls: Sequence[Call],
+    key: Callable[[Call], Any],
+    value: Callable[[Call], Any],
+    words: Callable[[Call, Call, int], Fault],
+) -> Iterator[Remark]:
+    """The packets whose value is not the usual one of their key."""
+    by_key: Dict[Any, List[Call]] = {}
+    for call in calls:
+        if call.is_compared:
+            by_key.setdefault(key(call), []).append(call)
+    for own in by_key.values():
+        counts = Counter(map(value, own))
+        usual = max(own, key=lambda each: counts[value(each)])
+        facts = [counted(f"{origin(located(each.owner, each.packet))} {value(each)}" for each in own)]
+        for call in own:
+            if value(call) != value(usual):
+                made = _remark(call, words(call, usual, counts[value(usual)]))
+                yield made._replace(compared=[located(usual.owner, usual.packet)], facts=facts)
+
+
+def _number_words(call: Call, usual: Call, count: int) -> Fault:
+    """One RBC with two numbers."""
+    own, other = (each.digits.rstrip("f") for each in (call, usual))
+    words = f"{centre_words(call.centre)} has the number {own}, and {other} by {_others(usual, count)}"
+    values = {"nid_radio": Decimal(call.form["nid_radio"]), "other_nid_radio": Decimal(usual.form["nid_radio"])}
+    return Fault(words, values, [("nid_radio", None)])
+
+
+def _centre_words(call: Call, usual: Call, count: int) -> Fault:
+    """One number of two RBC."""
+    own, other = (centre_words(each.centre) for each in (call, usual))
+    words = f"the number {call.digits.rstrip('f')} is that of {own}, and that of {other} by {_others(usual, count)}"
+    keys = [("nid_c", None) if call.centre[0] != usual.centre[0] else ("nid_rbc", None)]
+    return Fault(words, {"nid_rbc": Decimal(call.centre[1]), "other_nid_rbc": Decimal(usual.centre[1])}, keys)
+
+
+def _others(usual: Call, count: int) -> str:
+    """Who agrees about what is usual."""
+    name = f"packet {usual.packet.number} in "
+    where = rows_words([usual.packet.row.number]) if usual.packet.row else "a message"
+    return f"{count} other packet{'s' if count > 1 else ''}, such as {name}{where}"
+
+
+def _remark(call: Call, fault: Fault) -> Remark:
+    return remark("E27", located(call.owner, call.packet), [fault])
+
+
+RULE = Rule("E27", "radio block centres", __doc__ or "", find, Urgency.BRAKING)
