@@ -5,7 +5,9 @@
 //! are those of `etcs_rows`.
 #![tactic(auto)]
 
+mod error;
 pub mod laws;
 mod mark;
 
+pub use error::{Column, TableFault};
 pub use mark::without_mark;

@@ -1,0 +1,23 @@
+-- The faults of a table, and which of several is the first. Each is found by a check: a test, and the fault if it holds.
+use Rattle.std.specs.Prelude.{Bool, List, [], ◌∷◌, if◌then◌else◌, Option, None, Some, Result, Err}
+use Rattle.etcs_table.specs.declared.error.TableFault.{TableFault}
+
+-- the fault of the first check that holds
+unfoldable pub first_fault : List (Bool × TableFault) → Option TableFault
+first_fault [] = None
+first_fault (check ∷ checks) = if check.0 then Some check.1 else first_fault checks
+
+-- the first fault, if there is one, else the second
+abbrev pub or_else : Option TableFault → Option TableFault → Option TableFault
+or_else (Some fault) later = Some fault
+or_else None later = later
+
+-- the first fault of a list, whose members are checked in their order
+unfoldable pub all_checks : {X : Type 0} → (X → List (Bool × TableFault)) → List X → Option TableFault
+all_checks checks [] = None
+all_checks checks (x ∷ xs) = or_else (first_fault (checks x)) (all_checks checks xs)
+
+-- a fault comes first
+abbrev pub or_fault : {X : Type 0} → Option TableFault → Result X TableFault → Result X TableFault
+or_fault (Some fault) value = Err fault
+or_fault None value = value
