@@ -1,5 +1,7 @@
 -- The faults of a table, and which of several is the first. Each is found by a check: a test, and the fault if it holds.
-use Rattle.std.specs.Prelude.{Bool, List, [], ◌∷◌, if◌then◌else◌, Option, None, Some, Result, Err}
+use Rattle.std.specs.Prelude.{◌≡◌, Bool, List, [], ◌∷◌, if◌then◌else◌, Option, None, Some, Result, Err}
+use Rattle.etcs_table.specs.declared.error.TableError.{TableError}
+use Rattle.etcs_table.specs.declared.error.TableError.TheVariants as errors
 use Rattle.etcs_table.specs.declared.error.TableFault.{TableFault}
 
 -- the fault of the first check that holds
@@ -21,3 +23,8 @@ all_checks checks (x ∷ xs) = or_else (first_fault (checks x)) (all_checks chec
 abbrev pub or_fault : {X : Type 0} → Option TableFault → Result X TableFault → Result X TableFault
 or_fault (Some fault) value = Err fault
 or_fault None value = value
+
+-- A call that computes this result fails so: with its fault, or because memory ran out, which names no fault.
+abbrev pub FailsAs : {X : Type 0} → Result X TableFault → TableError → Type 0
+FailsAs result errors.Memory = Unit {0}
+FailsAs result (errors.Fault fault) = result ≡ Err fault

@@ -1,6 +1,10 @@
 //! `TableFault`: why a table stands for no groups. `TableError` adds that memory ran out.
 
+ghost use Rattle.std.specs.Prelude.{◌≡◌};
+ghost use Rattle.etcs_table.specs.declared.error.TableError.TheVariants as errors;
+
 use etcs_rows::WrongQuote;
+use std::alloc::{AllocError, AllocFailed};
 use thiserror::Error;
 
 /// A column that is read.
@@ -77,4 +81,31 @@ pub enum TableFault {
     /// A row of every aspect is not at one place in all of them.
     #[error("row {0}: not at one place in all aspects")]
     Moved(usize),
+}
+
+/// Why a table has no groups to return.
+#[derive(Clone, Copy, Debug, PartialEq, Eq, Error)]
+pub enum TableError {
+    /// Memory ran out. The table might have a fault all the same.
+    #[error("out of memory")]
+    Memory,
+    /// The table has this fault.
+    #[error("{0}")]
+    Fault(TableFault),
+}
+
+impl<T: Drop> From<AllocFailed<T>> for TableError {
+    ghost from_gives = { λ _ error. error ≡ errors.Memory };
+
+    fn from(_failed: AllocFailed<T>) -> TableError {
+        TableError::Memory
+    }
+}
+
+impl From<AllocError> for TableError {
+    ghost from_gives = { λ _ error. error ≡ errors.Memory };
+
+    fn from(_failed: AllocError) -> TableError {
+        TableError::Memory
+    }
 }

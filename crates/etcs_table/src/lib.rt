@@ -9,5 +9,5 @@ mod error;
 pub mod laws;
 mod mark;
 
-pub use error::{Column, TableFault};
+pub use error::{Column, TableError, TableFault};
 pub use mark::without_mark;
