@@ -151,7 +151,10 @@ def test_premises():
     premises = YES.partition("## Premises")[2].partition("\n## ")[0].lower()
     wanted = {"The definitions": "definitions", "The toolchain": "toolchain", "The contracts of libraries": "libraries",
               "The C library, the operating system and the machine": "c library, system and machine",
-              "`main`": "`main`", "Whoever wrote the clone": "whoever made your clone"}
+              "`main`": "`main`", "Instead of `main`, for the library for C": "trusted instead of `main`",
+              "Whoever wrote the clone": "whoever made your clone",
+              "The compiler for another processor": "compiler for another processor",
+              "C, assembler and JavaScript in `native/`": "`native/`", "The system": "and the system"}
     assert "memory" in premises and "memory" in PROOFS.partition("## What is proved")[2].partition("\n## ")[0].lower()
     assert heads == [*wanted] and all(words in premises for words in wanted.values()), heads
 
