@@ -1,0 +1,5 @@
+pub mod LoopLemmas
+pub mod NameLemmas
+pub mod ListLemmas
+pub mod GroupLemmas
+pub mod CountLemmas
