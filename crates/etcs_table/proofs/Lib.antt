@@ -3,3 +3,6 @@ pub mod NameLemmas
 pub mod ListLemmas
 pub mod GroupLemmas
 pub mod CountLemmas
+pub mod FaultLemmas
+pub mod RowLemmas
+pub mod TextLemmas

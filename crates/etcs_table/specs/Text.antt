@@ -1,7 +1,7 @@
 -- What is read in the text of a field.
-use Rattle.std.specs.Prelude.{ℕ, ◌==◌, ◌&&◌, ◌||◌, not, nat_eq, nat_le, Bool, List, [], ◌∷◌, drop, filter, if◌then◌else◌, length, take}
+use Rattle.std.specs.Prelude.{ℕ, ◌==◌, ◌&&◌, ◌||◌, not, ◌-◌, nat_eq, nat_le, Bool, List, [], ◌∷◌, drop, filter, if◌then◌else◌, length, take}
 use Rattle.std.specs.Cmp.Lexicographic.{pointwise}
-use Rattle.std.specs.List.{list_all}
+use Rattle.std.specs.List.{list_all, list_any}
 
 -- a text without its byte order mark
 abbrev pub without_mark : List ℕ → List ℕ
@@ -30,3 +30,7 @@ digits_of text = filter (λ c. not (is_blank c)) text
 -- a text reads as a telegram, be it a wrong one: at least 40 hexadecimal digits, and blanks
 abbrev pub reads_as_telegram : List ℕ → Bool
 reads_as_telegram text = nat_le 40 (length (digits_of text)) && list_all is_hexadecimal (digits_of text)
+
+-- a text begins or ends with a blank
+abbrev pub has_edge : List ℕ → Bool
+has_edge name = list_any is_blank (take 1 name) || list_any is_blank (drop (length name - 1) name)
