@@ -199,7 +199,11 @@ pack() {
     (cd "$1" && sha256sum "$name.tar.gz" >"$name.tar.gz.sha256")
     dist/pack/wheel "$room/$name" "$1" "$4"
     dist/pack/deb "$room/$name" "$1" "$4"
-    ! targets_of "$3" >/dev/null || dist/pack/targets.py "$room/$name" out/targets "$1" "$4"
+    if targets_of "$3" >/dev/null; then
+        dist/pack/targets.py "$room/$name" out/targets "$1" "$4"
+        dist/pack/wheel "$room/$name" "$1" "$4" out/targets/aarch64-linux
+        dist/pack/wheel "$room/$name" "$1" "$4" out/targets/wasm64
+    fi
     dist/pack/spdx.py "$room/$name" >"$1/balisecheck-$version$4.spdx.json"
     targets_of "$3" >/dev/null && others=s/^@TARGETS@// || others=/^@TARGETS@/d
     answered="balisecheck $version, SHA-256 $(said program "$room/$name/$dist"): the program"

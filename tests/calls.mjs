@@ -2,10 +2,12 @@
 // browser. The third number of a call is here the most bytes of memory for it, and 0 is no limit. Requests for memory are not
 // counted. `node calls.mjs MODULE` reads standard input.
 const encoder = new TextEncoder(), decoder = new TextDecoder();
+let limited = 0;
 
 function answered(its, name, input, most) {
     const [command, radio] = name.split("_");
-    its.limit(most || undefined);
+    if (most !== limited) its.limit(most || undefined); // (an instance of the module is kept for the next call)
+    limited = most;
     const answer = its[command](input, { radio: radio !== undefined });
     const { reason, at, end } = answer.fault ?? { reason: 0, at: 0, end: 0 };
     const text = encoder.encode(answer.text);

@@ -12,6 +12,7 @@ from urllib.parse import unquote
 
 import pytest
 
+import targets
 from runner import TOP, program
 from test_recipes import FILES, shown
 from tiny import attempt, sh, write
@@ -25,7 +26,10 @@ NEEDS = {"git": "git", "help2man": "help2man", "dpkg-deb": "dpkg",
 # A clone's manual page of balisekit has no help of single commands here, which would take long.
 TOOLS = {"help": 'case $* in *.py" --"* | "-I -c "*) exec /usr/bin/python3 "$@" ;; esac\n'}
 NO_RULES = ("refused", "not-judged", "not-compared", "entry-at-fault")  # (results of SARIF that have no page)
-INSTALL = "-m pip install -q --no-index --no-deps --no-compile --disable-pip-version-check *.whl"
+INSTALL = "-m pip install -q --no-index --no-deps --no-compile --disable-pip-version-check {}"
+HERE, ARM, ANY = "*-manylinux_2_34_x86_64.whl", "*-manylinux_2_17_aarch64.whl", "*-none-any.whl"
+# A root of Debian for aarch64 with python3, whose programs qemu runs (docs/contributing/testing.md).
+ARM_ROOT = os.environ.get("BALISECHECK_ARM_ROOT")
 # It counts how many processes a check starts.
 COUNT = """import contextlib, io, sys
 from balisekit.cli.main import main
@@ -78,7 +82,7 @@ def serves(made, prefix):
 
 def without_opening(said):
     """An answer without the line that names the program or the library."""
-    return re.sub("(?m)^(lib)?balisecheck .*SHA-256 .*$", "", said)
+    return re.sub("(?m)^(lib)?balisecheck.* SHA-256 .*$", "", said)
 
 
 def has_library(made):
@@ -139,7 +143,9 @@ def test_files(made):
     with_library = ["libbalisecheck-dev", "libbalisecheck0"] if has_library(made) else []
     others = [f"balisecheck-{VERSION}-{it}" for it in (
         "aarch64-linux-untested.tar.gz", "x86_64-windows-untested.zip")] if has_others(made) else []
-    others += [f"balisecheck-{VERSION}-untested.tgz"] if has_others(made) else []
+    others += [f"balisecheck-{VERSION}-untested.tgz",
+               *(f"balisekit-{VERSION}-0untested-py3-none-{it}.whl" for it in ("manylinux_2_17_aarch64", "any"))
+               ] if has_others(made) else []
     assert sh(made.parent, "diff -r made again") == ""
     assert attempt(TOP, f"scripts/release.sh --try '{made}'") == (1, f"release: {made} is not empty\n")
     assert sorted(os.listdir(made)) == sorted([
@@ -159,9 +165,10 @@ def test_tarball(made):
     tree = made.with_name("tree")
     assert sh(tree, "sha256sum --quiet -c SHA256SUMS") == ""
     if sum_of(tree / "balisecheck") == sum_of(TOP / STORED / "balisecheck"):
-        about, stored = (text_of(it / STORED / "ABOUT").partition("\nkit ")[2] for it in (tree, TOP))
+        about, stored = (text_of(it / STORED / "ABOUT").partition("\nkit ")[2].splitlines() for it in (tree, TOP))
+        own = [line for line in stored if "/" not in line]  # (the other files are here if scripts/targets built them)
         header = "crates/balisecheck_c/include/balisecheck.h"
-        assert about == stored and all(sum_of(tree / name) == sum_of(TOP / name) for name in (
+        assert about in (stored, own) and all(sum_of(tree / name) == sum_of(TOP / name) for name in (
             header, f"{STORED}/libbalisecheck.a", f"{STORED}/libbalisecheck.so.0"))
     readme = text_of(tree / "README.md")
     assert "\n**This is a trial" in readme and "@" not in readme
@@ -197,7 +204,7 @@ def test_older_system(made):
 def a_venv(made):
     """A venv with the wheel, which was installed without network."""
     venv = made.with_name("a venv")
-    sh(made, f"python3 -m venv --without-pip --system-site-packages '{venv}' && '{venv}/bin/python' {INSTALL}")
+    sh(made, f"python3 -m venv --without-pip --system-site-packages '{venv}' && '{venv}/bin/python' {INSTALL.format(HERE)}")
     return venv
 
 
@@ -232,7 +239,7 @@ def test_wheel_beside_no_interpreter(options, made, tmp_path):
     room = tmp_path / "a room"
     write(room / "re.py", "open('evil', 'w').close(); raise SystemExit(0)")
     managed = "--break-system-packages" if "break-system" in sh(made, "python3 -m pip install --help") else ""
-    sh(made, f"PYTHONUSERBASE='{room}' python3 {INSTALL} {managed} {options.format(room)} 2>/dev/null")
+    sh(made, f"PYTHONUSERBASE='{room}' python3 {INSTALL.format(HERE)} {managed} {options.format(room)} 2>/dev/null")
     (command,) = room.rglob("bin/balisekit")
     (room / "link").symlink_to(command)
     for words in (command, room / "link"):
@@ -287,7 +294,7 @@ def test_judged(judge, package, made):
     if not shutil.which(tool):
         pytest.skip(f"a judgement of packages ({tool})")
     said = re.sub(r"\x1b\[\d+m", "", sh(made, f"{judge} {package}"))
-    assert re.fullmatch(r"(Checking \S+: PASSED\n|running with root privileges .*\n)?", said)
+    assert re.fullmatch(r"((Checking \S+: PASSED\n)*|running with root privileges .*\n)?", said)
 
 
 @pytest.fixture(scope="module", name="root")
@@ -435,6 +442,72 @@ def test_other_systems(made, tmp_path):
         assert {*os.listdir(tmp_path / folder)} == {*sums} | papers | more
         assert {name: sum_of(tmp_path / folder / name) for name in sums} == sums
     assert os.access(tmp_path / folders["aarch64-linux"] / "balisecheck", os.X_OK)
+
+
+@pytest.fixture(scope="module", name="wheel_of_arm")
+def a_wheel_of_arm(made):
+    """The folder into which pip has put the wheel for aarch64, as on such a machine."""
+    if not has_others(made):
+        pytest.skip("the wheel for aarch64 (scripts/targets, which needs the toolchain)")
+    folder, platform_ = made.with_name("a wheel of ARM"), "--platform manylinux_2_17_aarch64 --only-binary=:all:"
+    sh(made, f"python3 {INSTALL.format(ARM)} {platform_} --target '{folder}'")
+    return folder
+
+
+def test_wheel_of_arm(made, wheel_of_arm):
+    """It has the same modules as the other wheel, and the files for aarch64, which its ABOUT names. Here pip refuses it."""
+    tree, package = made.with_name("tree"), wheel_of_arm / "balisekit"
+    lines = [line.split(" ", 1) for line in text_of(tree / STORED / "ABOUT").splitlines()]
+    whole, listed = dict(lines), dict(line.split(" ", 1) for line in text_of(package / "ABOUT").splitlines())
+    files = {"program": wheel_of_arm / "bin/balisecheck", "library": package / "libbalisecheck.so.0"}
+    for word, path in files.items():
+        assert listed.pop(word) == sum_of(path) == whole[f"aarch64-linux/{path.name}"] != whole[word]
+    assert listed.pop("glibc") == "2.17" and listed.pop("processor") == "aarch64"
+    assert listed == {word: whole[word] for word in ("version", "commit", "kit", "sources")}
+    differ = sh(tree, f"diff -r -x __pycache__ companion/src/balisekit '{package}' || true").splitlines()
+    assert {*differ} == {f"Only in {package}: {it}" for it in ("ABOUT", "RELEASES", "libbalisecheck.so.0")}
+    (metadata,) = map(text_of, wheel_of_arm.rglob("balisekit-*.dist-info/METADATA"))
+    assert "for Linux on ARM with 64 bits (aarch64) with glibc 2.17 or later" in metadata and "@" not in metadata
+    has_live_pages(wheel_of_arm)
+    status, said = attempt(made, f"python3 {INSTALL.format(ARM)} --target '{made.with_name('no wheel')}'")
+    assert status == 1 and "is not a supported wheel on this platform" in said
+
+
+def test_wheel_of_arm_by_qemu(wheel_of_arm, tmp_path):
+    """balisekit of the wheel answers as that of a clone, by its library and by its program."""
+    if not ARM_ROOT:
+        pytest.skip("balisekit on aarch64 (python3 for it in the root that BALISECHECK_ARM_ROOT names)")
+    shutil.copytree(wheel_of_arm, tmp_path / "it")
+    commands = tmp_path / "it/bin"
+    qemu = f"#!/bin/sh\nexec qemu-aarch64 -L '{ARM_ROOT}' "
+    write(commands / "python3", f"{qemu}'{ARM_ROOT}/usr/bin/python3' \"$@\"\n")
+    write(tmp_path / "program", f"{qemu}'{commands}/balisecheck' \"$@\"\n")
+    kit, named = f"'{commands}/balisekit' check", f"--program '{tmp_path}/program'"
+    library = f"SHA-256 {sum_of(wheel_of_arm / 'balisekit/libbalisecheck.so.0')}: the library of this balisekit, by ABOUT"
+    for name in ("links", "table", "meaning"):
+        table = f"'{TOP}/examples/{name}/line.csv'"
+        wanted = attempt(tmp_path, f"'{TOP}/balisekit' check {table}")
+        for words, opening in (("", library), (named, "not a released program: it was named by --program")):
+            status, said = attempt(tmp_path, f"{kit} {table} {words}")
+            assert opening in said and (status, without_opening(said)) == (wanted[0], without_opening(wanted[1]))
+
+
+def test_wheel_of_any_system(made, tmp_path):
+    """It has the module in place of program and library, and answers by node."""
+    if not has_others(made):
+        pytest.skip("the wheel for any system (scripts/targets, which needs the toolchain)")
+    sh(made, f"python3 {INSTALL.format(ANY)} --target '{tmp_path}/it'")
+    package, stored = tmp_path / "it/balisekit", made.with_name("tree") / STORED / "ABOUT"
+    about, whole = (dict(line.split(" ", 1) for line in text_of(it).splitlines()) for it in (package / "ABOUT", stored))
+    assert about.pop("module") == sum_of(package / "balisecheck.mjs") == whole["wasm64/balisecheck.mjs"]
+    assert about == {word: whole[word] for word in ("version", "commit", "kit", "sources")}
+    assert os.listdir(tmp_path / "it/bin") == ["balisekit"] and not (package / "libbalisecheck.so.0").exists()
+    targets.need("node")
+    table, path = f"'{TOP}/examples/table/line.csv'", "PATH=/usr/bin:/bin"
+    status, said = attempt(tmp_path, f"{path} it/bin/balisekit check {table}")
+    wanted = attempt(tmp_path, f"'{TOP}/balisekit' check {table}")
+    assert (status, without_opening(said)) == (wanted[0], without_opening(wanted[1]))
+    assert f"balisecheck.mjs {VERSION}, SHA-256 {sum_of(package / 'balisecheck.mjs')}: the module of this balisekit" in said
 
 
 def test_components(made):

@@ -12,6 +12,7 @@ import pytest
 from conftest import Run
 from meaning_line import Line, Row
 from meaning_mistakes import form_of
+from test_added_rules import rule as rule_file
 from test_meaning import Change, written
 
 from balisekit.engine.program import Program
@@ -188,6 +189,26 @@ def test_identities_and_aspects(
     first = found["entries"][0]
     assert words in first["sentence"] and first["rows"] == rows, first["sentence"]
     assert len([each for each in found["entries"] if not each["expected"]]) == 1
+
+
+def test_added_rules_see_no_correction(run: Run, program: Program, tmp_path: Path) -> None:
+    """Corrections are tried out with balisekit's own rules: a rule of users is applied once, and cannot fail there."""
+    path = written(program, tmp_path / "t.csv", Line(), moved("Signal 9", 270))
+    file = rule_file(tmp_path, answer="yield print('seen')")
+    status, out, err = run("check", path, "--rules-from", file)
+    assert status == 1 and any("at km 22.000 they would agree" in each for each in out)
+    assert err.count("seen") == len(path.read_text("utf-8").splitlines()) - 1
+
+
+@pytest.mark.parametrize("values", [{"nid_c": 353}, {"nid_bg": 77}, {"nid_c": 353, "nid_bg": 77}])
+def test_the_identity_of_one_telegram(run: Run, program: Program, tmp_path: Path, values: Dict[str, int]) -> None:
+    """NID_C or NID_BG of one telegram may differ, or both: the finding F3 names only what does."""
+
+    def change(rows: List[Row]) -> None:
+        next(row for row in rows if row.group == "Signal 9" and row.balise == 1).form.update(values)
+
+    _, found = answers(run, written(program, tmp_path / "t.csv", Line(), change))
+    assert any("the telegram has the identity" in each["sentence"] for each in found["entries"]), found["entries"]
 
 
 def wrong_place(evidence: Evidence) -> Any:

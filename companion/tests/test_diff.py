@@ -280,8 +280,8 @@ def test_parts_that_come_and_go() -> None:
     packet = link_tables.authority()[0]
     more = {**packet, "overlap": {"d_startol": 300, "t_ol": 60, "d_ol": 200, "v_releaseol": 126}}
     assert changes([packet], [more]) == [
-        "packet 12 (movement authority of level 1, nominal), first in the telegram  overlap  added: D_STARTOL 300 m [300]  "
-        "T_OL 60 s [60]  D_OL 200 m [200]  V_RELEASEOL calculated on board [126]"
+        "packet 12 (movement authority of level 1, nominal), first in the telegram  overlap  added: "
+        "D_STARTOL 300 m [300]  T_OL 60 s [60]  D_OL 200 m [200]  V_RELEASEOL calculated on board [126]"
     ]
     assert "overlap  removed: " in changes([more], [packet])[0]
     link = link_tables.linking(1, {**link_tables.link(1, 2, 1), "nid_c": 7})

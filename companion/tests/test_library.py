@@ -227,6 +227,13 @@ def test_where_the_library_cannot_be_called(clone: Path, lacks: str, monkeypatch
     assert Program.find().kind == "program"
 
 
+def test_each_processor_of_arm_has_what_the_library_for_it_needs(clone: Path, monkeypatch: pytest.MonkeyPatch) -> None:
+    """Its /proc/cpuinfo has none of the words of x86-64. (Here the library itself is that for x86-64.)"""
+    monkeypatch.setattr(loaded_library, "uname", lambda: os.uname_result(["Linux", "here", "6.1", "1", "aarch64"]))
+    monkeypatch.setattr("builtins.open", refusing("/proc/cpuinfo"))
+    assert Program.find().kind == "library"
+
+
 def refusing(refused: str) -> Callable[..., Any]:
     """`open`, which cannot open this file."""
     real = open

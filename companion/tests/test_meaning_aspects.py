@@ -8,6 +8,7 @@ from pathlib import Path
 from typing import Any, List, Optional, Sequence, Tuple
 
 import pytest
+from conftest import Run
 from meaning_line import Line, Row, change
 from meaning_mistakes import BOTH, RESTRICTED, restriction, with_packet
 from meaning_mistakes_of_groups import (
@@ -441,6 +442,39 @@ def test_e24_of_packets(program: Program, tmp_path: Path) -> None:
     assert not found(program, tmp_path / "t.csv", "E24", turned(3, GREEN))  # (a remark of E8)
     four = Line(signals=4)
     assert not found(program, tmp_path / "t.csv", "E24", without(3, RED, 12), line=four)
+
+
+def test_e24_of_two_aspects_of_a_signal(program: Program, run: Run, tmp_path: Path) -> None:
+    """A second mistake hides none: a group with few packets 12 is compared by the names of its aspects, or counted."""
+    both = [without(3, RED, 12, 21, 27), without(3, YELLOW, 12)]
+    made = found(program, tmp_path / "t.csv", "E24", *both)
+    assert [one.aspects for one in made] == [[RED], [YELLOW]]
+    assert "it lacks packets 12 (movement authority of level 1), 21" in made[0].sentence
+    (one,) = found(program, tmp_path / "t.csv", "E24", *both, without(3, GREEN, 12), without(4, RED, 12))
+    assert one.rows == (row_of(4, RED),)
+    why = "aspects of groups without a packet 12 in half of their aspects, for one direction: 3"
+    assert f"not compared by E24: 3 of 18 aspects of signals ({why})" in run("check", tmp_path / "t.csv")[1]
+
+
+def test_e24_of_an_order_that_most_stop_aspects_lack(program: Program, tmp_path: Path) -> None:
+    """Each red but that of Signal 3 has packet 137, and no yellow, which stops too. E8 is silent then."""
+    stops = [packet_with(signal, YELLOW, 12, v_main=0) for signal in range(1, 7)]
+    orders = [packets_added(signal, RED, raw(137, "0")) for signal in (1, 2, 4, 5, 6)]
+    assert not found(program, tmp_path / "t.csv", "E8", *stops, *orders)
+    (one,) = found(program, tmp_path / "t.csv", "E24", *stops, *orders)
+    assert one.rows == (row_of(3, RED),) and "lacks packet 137 (stop if in staff responsible)" in one.sentence
+    assert not found(program, tmp_path / "t.csv", "E24", *orders)  # (a remark of E8)
+
+
+def test_e24_says_at_how_many_signals(program: Program, tmp_path: Path) -> None:
+    """Another signal may have a value of its own, or "go" at an aspect that does not stop."""
+    own = [overlap_of(3, GREEN, t_ol=30), overlap_of(5, GREEN, t_ol=20, d_ol=150)]
+    (one,) = found(program, tmp_path / "t.csv", "E24", *own)
+    assert one.rows == (row_of(3, GREEN),) and one.sentence.endswith(", and 60 s at 4 of 5 other signals with it")
+    orders = [packets_added(signal, RED, raw(137, bit)) for signal, bit in enumerate("011", 1)]
+    lacking, one = found(program, tmp_path / "t.csv", "E24", *orders, without(3, RED, 12))
+    assert "lacks packet 12" in lacking.sentence and one.rows == (row_of(2, RED),)
+    assert one.sentence.endswith(", and stop if in SR mode at 1 of 2 other signals with it")
 
 
 @pytest.mark.parametrize(

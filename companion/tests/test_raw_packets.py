@@ -591,8 +591,8 @@ def test_packets_that_come_and_go() -> None:
     assert [str(each) for each in differences(old, new)][1:] == [
         f"packet 46 (conditional level transition order, nominal, {own}), first in the telegram  choice 1  added: "
         "M_LEVELTR level 2 [3]",
-        f"packet 66 (temporary speed restriction revocation, {own}), second in the telegram  added: NID_PACKET temporary "
-        "speed restriction revocation [66]  Q_DIR nominal [1]  L_PACKET 31 bits [31]  NID_TSR 3",
+        f"packet 66 (temporary speed restriction revocation, {own}), second in the telegram  added: NID_PACKET "
+        "temporary speed restriction revocation [66]  Q_DIR nominal [1]  L_PACKET 31 bits [31]  NID_TSR 3",
     ]
 
 

@@ -450,7 +450,9 @@ def test_x5_of_a_border_whose_direction_is_not_known(program: Program, tmp_path:
         for row in rows:
             row.place -= 3 * row.balise if row.group == "Border" else 0
             row.form["packets"] = [
-                each for each in row.form["packets"] if each["nid_packet"] not in ({5} if row.group == "Border" else {5, 41})
+                each
+                for each in row.form["packets"]
+                if each["nid_packet"] not in ({5} if row.group == "Border" else {5, 41})
             ]
 
     rows = [{**dict.fromkeys(plan.COLUMNS, ""), "kind": "level", "km": "16.700", "way": "rising", "value": "0"}]

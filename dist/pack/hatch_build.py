@@ -1,4 +1,4 @@
-"""Names the systems on which the program of the wheel runs."""
+"""Names the systems on which the wheel runs."""
 import os
 from typing import Any, Dict
 
@@ -6,9 +6,8 @@ from hatchling.builders.hooks.plugin.interface import BuildHookInterface
 
 
 class ProgramHook(BuildHookInterface):
-    """The wheel is for x86-64 with the C library that the program needs, and for any Python 3."""
+    """The wheel is for the processor and the C library that its program needs, or for any system, and any Python 3."""
 
     def initialize(self, version: str, build_data: Dict[str, Any]) -> None:
-        glibc = os.environ["GLIBC"].replace(".", "_")
-        build_data["tag"] = f"py3-none-manylinux_{glibc}_x86_64"
-        build_data["pure_python"] = False
+        build_data["tag"] = f"py3-none-{os.environ['TAG']}"
+        build_data["pure_python"] = os.environ["TAG"] == "any"

@@ -8,7 +8,7 @@ from datetime import date
 from itertools import combinations
 from pathlib import Path
 from random import Random
-from typing import Callable, Dict, Iterator, List, Optional, Set, Tuple
+from typing import Callable, Collection, Dict, Iterator, List, Optional, Set, Tuple
 
 import pytest
 import random_lines
@@ -19,13 +19,26 @@ from test_accepted_data import SIGNED, entries
 from balisekit.engine.program import Program
 from balisekit.errors import KitError
 from balisekit.rules import accepted, checking
-from balisekit.rules.accepted import Acceptance, Entries, Item, checksum, identities, keys
+from balisekit.rules.accepted import (
+    ANY,
+    FIELDS,
+    Acceptance,
+    Entries,
+    Item,
+    Key,
+    checksum,
+    identities,
+    keys,
+    under_stars,
+)
 from balisekit.rules.families import Outcome, apply
 from balisekit.rules.location import Location
 from balisekit.rules.rule import ALL, Options, Remark
 from balisekit.tables import plan, reader
 
-EXAMPLES = TOP / "examples"
+EXAMPLES, HERE = TOP / "examples", Path(__file__).parent
+STARRED = [(rule, group) for group in "12" for rule in ("F10", "F12")]
+"""What entries of the table starred/proceed.csv are about: a rule and NID_BG."""
 TABLES = sorted([*EXAMPLES.glob("links/*.csv"), *EXAMPLES.glob("meaning/mistakes/*.csv"), EXAMPLES / "table/line.csv"])
 PLANNED = EXAMPLES / "meaning/level-border.csv"
 SEEDS = range(8)
@@ -36,6 +49,10 @@ NOT_SIGNED = re.compile(r"\(km [^)]*\)|  km [0-9.]+|(?<=balise )\"[^\"]*\" ")
 """What balisekit adds to findings, and no entry covers: kilometres, and names of balises."""
 Cells = Dict[str, str]
 Change = Tuple[str, List[Cells]]
+Said = Tuple[Key, str]
+"""What an entry has to say of an item, and the sentence of the item."""
+STARS = {"aspect": ["aspect"], "all": ["nid_c", "nid_bg", *FIELDS[4:]]}
+"""Fields of entries with `*`."""
 
 
 def exchanged(rows: List[Cells], some: List[int], others: List[int], *columns: str) -> List[Cells]:
@@ -102,22 +119,23 @@ def said_by(outcome: Outcome) -> Callable[[Item], str]:
     return said
 
 
-def signed(outcome: Outcome) -> Tuple[Entries, Dict[int, Set[str]]]:
-    """An entry for all that was found, and what it is about by its row."""
-    by_key: Dict[Tuple[str, ...], List[Item]] = {}
+def signed(outcome: Outcome, stars: Collection[str] = ()) -> Tuple[Entries, Dict[int, Set[Said]]]:
+    """An entry for all that was found, with `*` in these fields, and what it is about by its row."""
+    by_entry: Dict[Key, List[Tuple[Key, Item]]] = {}
     for key, item in zip(keys(outcome.items, outcome.checked), outcome.items):
-        by_key.setdefault(key, []).append(item)
-    said = said_by(outcome)
-    made = [
-        Acceptance(row, key, "looked at", "J. Doe", date(2026, 1, 1), None, checksum(items))
-        for row, (key, items) in enumerate(by_key.items(), 2)
-    ]
-    return Entries("a.csv", "", tuple(made)), {
-        row: set(map(said, items)) for row, items in enumerate(by_key.values(), 2)
-    }
+        wide = tuple(ANY if name in stars and own else own for name, own in zip(FIELDS, key))
+        by_entry.setdefault(wide, []).append((key, item))
+    said, made = said_by(outcome), []
+    for row, (wide, some) in enumerate(by_entry.items(), 2):
+        sha256 = checksum([item for _, item in some], starred=[under_stars(wide, own) for own, _ in some])
+        made.append(Acceptance(row, wide, "looked at", "J. Doe", date(2026, 1, 1), None, sha256))
+    known = enumerate(by_entry.values(), 2)
+    return Entries("a.csv", "", tuple(made)), {row: {(own, said(item)) for own, item in some} for row, some in known}
 
 
-def accepted_wrongly(program: Program, path: Path, text: str, of_line: Options, with_groups: bool) -> List[str]:
+def accepted_wrongly(
+    program: Program, path: Path, text: str, of_line: Options, with_groups: bool, stars: Collection[str] = ()
+) -> List[str]:
     """What entries accept after an exchange although they were signed for another sentence."""
 
     def outcome(content: str, entries: Optional[Entries] = None) -> Outcome:
@@ -125,7 +143,7 @@ def accepted_wrongly(program: Program, path: Path, text: str, of_line: Options, 
         checked = checking.check(program, reader.read(str(path)))
         return apply(checked, "FLEX", of_line, (entries, DAY) if entries else None)
 
-    entries, known = signed(outcome(text))
+    entries, known = signed(outcome(text), stars)
     wrong = []
     for words, content in changes(text, with_groups):
         try:
@@ -134,8 +152,12 @@ def accepted_wrongly(program: Program, path: Path, text: str, of_line: Options, 
             continue
         said = said_by(found)
         assert found.judged is not None
-        pairs = zip(found.judged.items, found.judged.by_item)
-        wrong += [f"{words}: {said(it)}" for it, entry in pairs if entry and said(it) not in known[entry.row]]
+        pairs = zip(keys(found.items, found.checked), found.judged.items, found.judged.by_item)
+        wrong += [
+            f"{words}: {key}: {said(it)}"
+            for key, it, entry in pairs
+            if entry and (key, said(it)) not in known[entry.row]
+        ]
     return wrong
 
 
@@ -151,11 +173,39 @@ def test_no_entry_outlives_an_exchange(program: Program, tmp_path: Path, table: 
 
 
 @pytest.mark.slow
+@pytest.mark.parametrize("stars", STARS.values(), ids=STARS)
+@pytest.mark.parametrize("name", ["line", "E2", "E13"])
+def test_no_entry_with_a_star_outlives_an_exchange(
+    program: Program, tmp_path: Path, name: str, stars: List[str]
+) -> None:
+    """What is exchanged between two aspects, balises or groups under a `*` is looked at again."""
+    text = next(path for path in TABLES if path.stem == name and path.parent.name != "links").read_text("utf-8")
+    options = Options(asked=frozenset({ALL}), line_speed=100)
+    assert not accepted_wrongly(program, tmp_path / "t.csv", text, options, True, stars)
+
+
+@pytest.mark.slow
 @pytest.mark.parametrize("seed", SEEDS)
 def test_no_entry_for_a_finding_outlives_an_exchange(program: Program, tmp_path: Path, seed: int) -> None:
     """Of the findings F, in random lines."""
     text = "\n".join(random_lines.table(program, seed)) + "\n"
     assert not accepted_wrongly(program, tmp_path / "t.csv", text, Options(), True)
+
+
+def test_an_entry_with_a_star_after_an_exchange(run: Run, tmp_path: Path, monkeypatch: pytest.MonkeyPatch) -> None:
+    """Telegrams of "yellow" and "green" of Signal 2 are exchanged: entries with `*` as aspect had accepted both."""
+    set_day(monkeypatch, 1780000000)
+    wide = [
+        {**dict(zip(FIELDS, (rule, "352", group, "", ANY, "", "", "nominal"))), **SIGNED} for rule, group in STARRED
+    ]
+    one, other = (HERE / f"starred/{name}.csv" for name in ("proceed", "exchanged"))
+    file = entries(tmp_path / "a.csv", *wide)
+    _, out, _ = run("check", one, "--only", "F", "--accepted", file)
+    sums = re.findall(r"row \d+: no sha256: the sha256 of the 2 findings that it fits is (\w+)", "\n".join(out))
+    file = entries(tmp_path / "a.csv", *({**each, "sha256": sha256} for each, sha256 in zip(wide, sums)))
+    assert run("check", one, "--only", "F", "--accepted", file)[0] == 0
+    status, out, _ = run("check", other, "--only", "F", "--accepted", file)
+    assert status == 1 and out[-1] == "findings 8: accepted 4 (4 by *), open 4; entries at fault 2"
 
 
 def test_entries_of_earlier_versions(
@@ -221,5 +271,5 @@ def test_names_of_groups_exchanged(program: Program, tmp_path: Path, table: Path
         assert found.judged is not None
         pairs = [(item, entry) for item, entry in zip(found.judged.items, found.judged.by_item) if entry]
         assert len(pairs) > 2 and all(
-            words_of(item) in words or said(item) in sentences[entry.row] for item, entry in pairs
+            words_of(item) in words or said(item) in {own for _, own in sentences[entry.row]} for item, entry in pairs
         ), (one, other)

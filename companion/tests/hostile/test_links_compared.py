@@ -34,14 +34,7 @@ KMS = ["0", "1", "2", "3", "4", "5"]
     "balises, kms, nominal, by, status, last",
     [
         (2, KMS, "rising", 5000, 1, ["links: 10 found (L2 5, L3 5)", "compared: 5 links (L1, L2, L3)"]),
-        (
-            2,
-            KMS,
-            "",
-            5000,
-            1,
-            ["links: 9 found (L2 5, L3 4)", "compared: 5 links (L1, L2), 4 links (L3)"],
-        ),
+        (2, KMS, "", 5000, 1, ["links: 9 found (L2 5, L3 4)", "compared: 5 links (L1, L2), 4 links (L3)"]),
         (2, KMS, "", 1000, 1, ["links: 4 found (L3 4)", "compared: 5 links (L1, L2), 4 links (L3)"]),
         (1, KMS, "", 5000, 1, ["links: 5 found (L2 5) in 6 groups", "compared: 5 links (L1, L2), 0 links (L3)"]),
         (

@@ -20,7 +20,7 @@ TOP = os.path.normpath(os.path.join(os.path.realpath(__file__), *[os.pardir] * 5
 """The top of the repository or of the release. For a wheel it is neither, and the package has the file."""
 SECONDS = 60
 """How long the start script of a clone may take to compute the checksum of its sources."""
-LIBRARY = "libbalisecheck.so.0"
+LIBRARY, MODULE = "libbalisecheck.so.0", "balisecheck.mjs"
 ABOUT, RELEASES, SOURCES = "ABOUT", "RELEASES", "sources"
 """What a checksum is known by: the program that was stored with this balisekit, one that was stored before, or one that
 was built from the sources of this clone and not stored."""
@@ -58,7 +58,7 @@ def _is_of_sources() -> bool:
 
 
 class StoredLibrary(NamedTuple):
-    """The library for C that was stored with the program of this balisekit."""
+    """The library for C, or the module, that was stored with this balisekit."""
 
     path: str
     sha256: str
@@ -68,11 +68,21 @@ class StoredLibrary(NamedTuple):
 
 def stored_library() -> Optional[StoredLibrary]:
     """The library that the first ABOUT names, if its file is undamaged. None if there is none."""
+    return _stored_file(LIBRARY, "library")
+
+
+def stored_module() -> Optional[StoredLibrary]:
+    """The module for JavaScript that the first ABOUT names, if its file is undamaged. None if there is none."""
+    return _stored_file(MODULE, "module")
+
+
+def _stored_file(name: str, word: str) -> Optional[StoredLibrary]:
+    """The first file of this name beside an ABOUT, if its checksum is the one that ABOUT has after the word."""
     for folder, papers in abouts():
-        path = os.path.join(folder, LIBRARY)
+        path = os.path.join(folder, name)
         if os.path.isfile(path):
             sha256 = checksum(path)
-            return StoredLibrary(path, sha256, papers) if sha256 == papers.get("library") else None
+            return StoredLibrary(path, sha256, papers) if sha256 == papers.get(word) else None
     return None
 
 
@@ -89,9 +99,18 @@ def is_asked_for(named: Optional[str], timeout: Optional[float] = None) -> bool:
 
 
 def answering(named: Optional[str], timeout: Optional[float]) -> str:
-    """The file of the library if it answers, else of the program."""
-    library = None if is_asked_for(named, timeout) else current_library()
-    return library.path if library else find(named)
+    """The file of the library if it answers, else of the program, else of the module."""
+    is_asked = is_asked_for(named, timeout)
+    library = None if is_asked else current_library()
+    if library:
+        return library.path
+    try:
+        return find(named)
+    except NoAnswer:
+        module = None if is_asked else stored_module()
+        if module is None:
+            raise
+        return module.path
 
 
 def _has_changed_since(path: str) -> bool:
@@ -276,6 +295,8 @@ def abouts() -> Iterator[Tuple[str, Dict[str, str]]]:
 
 
 def released() -> str:
-    """Version and checksums of the program that was released with this balisekit. Empty if there is none."""
+    """Version and checksums of the program, or of the module, that was released with this balisekit. Empty if there is
+    none."""
     papers: Dict[str, str] = next(all_papers(), {})
-    return "balisecheck {version}, sources {sources}, program {program}".format(**papers) if papers else ""
+    word = "module" if "module" in papers else "program"
+    return f"balisecheck {papers['version']}, sources {papers['sources']}, {word} {papers[word]}" if papers else ""

@@ -7,6 +7,7 @@ from __future__ import annotations
 import json
 from collections.abc import Callable, Iterable, Iterator, Mapping, Sequence
 from dataclasses import dataclass
+from os import uname
 from resource import RLIM_INFINITY, RLIMIT_STACK, getrlimit
 from threading import stack_size
 from typing import Any, ClassVar, Dict, Optional, Pattern, Union
@@ -82,6 +83,8 @@ def _is_able() -> bool:
     soft = getrlimit(RLIMIT_STACK)[0]
     if soft != RLIM_INFINITY and soft < STACK or 0 < stack_size() < STACK:
         return False
+    if uname().machine == "aarch64":  # (the library for it needs nothing that some of these processors lack)
+        return True
     try:
         with open("/proc/cpuinfo", "rb", buffering=0) as file:
             words = file.read(1 << 13).decode("ascii", "replace").split()

@@ -91,7 +91,7 @@ class Program:
     """A program that has shown that it is balisecheck, or its library."""
 
     kind: ClassVar[str] = "program"
-    """What answers: `program` or `library`."""
+    """What answers: `program`, `library` or `module`."""
     path: str
     """The file."""
     sha256: str
@@ -107,12 +107,26 @@ class Program:
     @classmethod
     def find(cls, named: Optional[str] = None, timeout: Optional[float] = None) -> Program:
         """The program of this path, else of BALISECHECK, else the library that was stored with this balisekit, else the
-        program of the clone, else the installed one. `KitError` is raised if there is none, if its checksum is not
-        known and no path was given, or if it fails a trial run. With a limit of time no library answers, because
-        nothing can end a call."""
-        library = None if find_program.is_asked_for(named, timeout) else _library()
+        program of the clone, else the installed one. If there is none that starts, node runs the module that was stored
+        with this balisekit. `KitError` is raised if there is none, if its checksum is not known and no path was given,
+        or if it fails a trial run. With a limit of time neither library nor module answers, because nothing can end a
+        call."""
+        if find_program.is_asked_for(named, timeout):
+            return cls._started(named, timeout)
+        library = _library()
         if library:
             return library
+        try:
+            return cls._started(named, timeout)
+        except NoAnswer:
+            module = _module()
+            if module is None:
+                raise
+            return module
+
+    @classmethod
+    def _started(cls, named: Optional[str], timeout: Optional[float]) -> Program:
+        """The program of this path, of BALISECHECK, of the clone, or the installed one, after its trial runs."""
         path = find_program.find(named)
         sha256 = find_program.checksum(path)
         known = find_program.known(named, path, sha256)
@@ -279,7 +293,8 @@ class Program:
             import platform  # (slow, and only needed here)
 
             here = f"{platform.machine()} with {' '.join(platform.libc_ver()).strip() or 'another C library'}"
-            needs = f"it needs x86-64-v2 and glibc {self.about.get('glibc')} or later"
+            processor = self.about.get("processor", "x86-64-v2")
+            needs = f"it needs {processor} and glibc {self.about.get('glibc')} or later"
             what = f"does not start here: {needs}, and this is {here}"
         said = run.errors[:1000].decode("utf-8", "backslashreplace").strip().split("\n")[0]
         return NoAnswer(f"{self.path} {what}" + (f": {said}" if said else ""))
@@ -296,6 +311,15 @@ def _library() -> Optional[Program]:
     except ImportError:  # (some builds of Python have no ctypes)
         return None
     return LoadedLibrary.stored()
+
+
+def _module() -> Optional[Program]:
+    """The module that answers where no library and no program can, if it can be used here."""
+    try:
+        from balisekit.engine.loaded_module import LoadedModule
+    except ImportError:
+        return None
+    return LoadedModule.stored()
 
 
 def pieces(document: Union[str, bytes, Mapping[str, Any], Iterable[str]]) -> Iterator[bytes]:

@@ -25,7 +25,7 @@ KNOWN = {
     "": "not a released program: it was named by --program",
 }
 """What is said of a program, by what its checksum is known by."""
-NAMES = {"program": "balisecheck", "library": "libbalisecheck"}
+NAMES = {"program": "balisecheck", "library": "libbalisecheck", "module": "balisecheck.mjs"}
 PLAIN = re.compile("[-+/.,A-Za-z0-9_]*")
 """A value that needs no quotes."""
 DEFAULTS = "all have their defaults"

@@ -3,7 +3,8 @@
 An entry names a group by its identity, a message by its name in the messages' file, an aspect by its name in the table,
 and a balise and packet by their places. So a group that is put in before moves nothing. Names have the escapes of all
 outputs. The checksum of an entry holds the telegrams that were looked at, and what a sentence says of other ones: its
-numbers, and the names of aspects and tracks. The entry accepts no others.
+numbers, and the names of aspects and tracks. Where an entry has a `*`, it holds the value of each item too. The entry
+accepts no others.
 """
 from __future__ import annotations
 
@@ -139,13 +140,14 @@ class Acceptance(NamedTuple):
             faults.append(f"expired: until {self.until} is past")
         return faults
 
-    def changed(self, items: Sequence[Item]) -> List[str]:
+    def changed(self, fitted: Sequence[Tuple[Key, Item]]) -> List[str]:
         """Why it does not accept these items, which it fits: its checksum is of other data, or it has none."""
-        now = checksum(items)
+        items = [item for _, item in fitted]
+        now = checksum(items, starred=[under_stars(self.key, own) for own, _ in fitted])
         if self.sha256 == now:
             return []
-        fitted = f"the {len(items)} findings" if len(items) > 1 else "the finding"
-        hint = f": the sha256 of {fitted} that it fits is {now}" if self.is_wide else ""
+        these = f"the {len(items)} findings" if len(items) > 1 else "the finding"
+        hint = f": the sha256 of {these} that it fits is {now}" if self.is_wide else ""
         since = f" since {self.date}" if self.date else ""
         if not self.sha256:
             return [f"no sha256{hint}"]
@@ -344,14 +346,22 @@ def _message(item: Item) -> Optional[Message]:
     return item.location.message if isinstance(item, Remark) else item.message
 
 
-def checksum(items: Sequence[Item], in_full: bool = True) -> str:
+def under_stars(entry: Key, item: Key) -> Sequence[str]:
+    """What an item has where an entry has `*`. Two aspects may exchange all else, and the entry would fit as before."""
+    return [f"{name} {own}" for name, any_, own in zip(FIELDS, entry, item) if any_ == ANY]
+
+
+def checksum(items: Sequence[Item], in_full: bool = True, starred: Sequence[Sequence[str]] = ()) -> str:
     """The SHA-256 of the telegrams or messages that items are about: their digits in small letters, a line each.
 
     For a remark the values that its rule has compared and the numbers of its sentence follow, a line each. Balisekit up
-    to 0.5.16 left out the rest: names, the other places, what a sentence only counts, and how many items are alike.
+    to 0.5.16 left out the rest: names, the other places, what a sentence only counts, how many items are alike, and
+    what each item has where its entry has `*`.
     """
+    stars: Sequence[Sequence[str]] = [*(starred if in_full else ()), *([()] * len(items))]
     lines = (
-        [*map(str.lower, (*_texts(item), *_values(item, in_full))), *(_rest(item) if in_full else ())] for item in items
+        [*own, *map(str.lower, (*_texts(item), *_values(item, in_full))), *(_rest(item) if in_full else ())]
+        for item, own in zip(items, stars)
     )
     blocks: Iterable[str] = ["".join(f"{line}\n" for line in own) for own in lines]
     text = "".join(sorted(blocks if in_full else set(blocks)))
@@ -433,13 +443,14 @@ def judge(
 
     An entry that matches nothing is no fault unless its rule is applied in full.
     """
-    about = list(_entries_about(keys(items, checked), entries.entries))
+    named = keys(items, checked)
+    about = list(_entries_about(named, entries.entries))
     fitted_rows = {entry.row for fits in about for entry in fits}
     applied = [entry for entry in entries.entries if entry.row in fitted_rows or is_applied(entry.rule)]
-    fitting: Dict[int, List[Item]] = {}
-    for item, fits in zip(items, about):
+    fitting: Dict[int, List[Tuple[Key, Item]]] = {}
+    for key, item, fits in zip(named, items, about):
         for entry in fits:
-            fitting.setdefault(entry.row, []).append(item)
+            fitting.setdefault(entry.row, []).append((key, item))
     faults: Dict[int, List[str]] = {}
     for entry in applied:
         fitted = fitting.get(entry.row)

@@ -167,7 +167,8 @@ class Outcome:
 
     @cached_property
     def _identities(self) -> Mapping[str, Identity]:
-        return identities(self.checked, [entry.group for entry in self.entries if entry.group])
+        every = [each for entry in self.entries for each in (entry, *entry.folded)]
+        return identities(self.checked, [entry.group for entry in every if entry.group])
 
     def identity(self, entry: Entry) -> Optional[Identity]:
         """NID_C and NID_BG of the group of an entry, if they are known."""
@@ -303,13 +304,17 @@ def _rows_of_aspect(place: Place) -> Iterator[int]:
 def _judged_again(checked: Checked, asked: Sequence[Family], options: Options, table: Table) -> Iterator[Answer]:
     """What the same rules find of a corrected table, whatever was accepted: those first that most corrections break.
 
-    Nobody asks for the rest of an answer that has a new entry. The program's findings may rest on remarks.
+    Nobody asks for the rest of an answer that has a new entry. The program's findings may rest on remarks. Added rules
+    see no corrected table.
     """
     made = check(checked.program, table, checked.messages, table.reading.by_position)
     yield Answer(refused=_refused(made))
     line = Line.of(made, options.jumps)
     remarks: List[Remark] = []
-    for family in sorted(_able(made, asked), key=lambda each: (each.letter not in DOUBTING, each.letter)):
+    for family in sorted(
+        _able(made, [family for family in asked if family.letter != ADDED]),
+        key=lambda each: (each.letter not in DOUBTING, each.letter),
+    ):
         if family.letter == PROVED:
             yield Answer(entries(_without_doubtful(made, remarks)))
         for rule, result in results_of(line, options, family.rules):
@@ -330,7 +335,7 @@ def _with_causes(checked: Checked, parts: Sequence[Part], again: Again, options:
     if not still_open or line is None:
         return list(parts)
     skipped = {rule.name: each.skipped for part in parts if part.applied for rule, each in part.applied.results.items()}
-    before = Answer([entry for part in parts for entry in part.entries], skipped, _refused(checked))
+    before = Answer([entry for part in own for entry in part.entries], skipped, _refused(checked))
     found = explained(Evidence(checked, line, options, still_open), before, again, SUGGESTIONS)
     made = [_standing_for(checked, *each) for each in found]
     line.for_pictures()

@@ -15,7 +15,9 @@ from balisekit.tables.cells import digits, kind_and_text
 LEAST_DIGITS, LEAST_LETTERS, LEAST_RUN = 40, 4, 13
 """How many digits could be a telegram: in groups, if so many are letters; or in one run, if one of them is a letter."""
 CHECKSUM = re.compile(r"(?<![^\W_])(?:0[xX])?([0-9A-Fa-f]{32}|[0-9A-Fa-f]{40}|(?:[0-9A-Fa-f]{32}){2,4})(?![^\W_])")
-"""An MD5, SHA-1, SHA-256, SHA-384 or SHA-512. No telegram has so many digits."""
+"""An MD5, SHA-1, SHA-256, SHA-384 or SHA-512, unless it looks like a telegram with fill, or like a part of one."""
+VERSIONS, LEAST_REST, FILL = ("a0", "a1", "90", "91"), 10, re.compile("(?:[Ff]{4,}|0{4,})$")
+"""With what a telegram begins, how many digits with letters can be the rest of one, and what fills one up."""
 MOST_CHECKSUMS = 4
 """Of one length. More of them could be the lines of a telegram."""
 UUID = re.compile(r"(?<![^\W_])[0-9A-Fa-f]{8}(?:-[0-9A-Fa-f]{4}){3}-[0-9A-Fa-f]{12}(?![^\W_])")
@@ -91,7 +93,22 @@ def _without_names(text: str) -> str:
     """The text without UUIDs and checksums, unless there are more of one length than a text names."""
     text = UUID.sub("", text)
     lengths = Counter(map(len, CHECKSUM.findall(text)))
-    return text if max(lengths.values(), default=0) > MOST_CHECKSUMS else CHECKSUM.sub("", text)
+    if max(lengths.values(), default=0) > MOST_CHECKSUMS:
+        return text
+    return CHECKSUM.sub(lambda found: found[0] if _begins_telegram(found[1], text[found.end() :]) else "", text)
+
+
+def _begins_telegram(value: str, rest: str) -> bool:
+    """Whether digits with the length of a checksum are those of a telegram with fill, or the first ones of one.
+
+    One in 300 random checksums begins with a header, so fill or other digits must follow.
+    """
+    bits = int(value[2:6], 16)
+    is_header = not bits >> 15 and bits >> 12 & 7 <= bits >> 9 & 7 and bits >> 7 & 3 < 3
+    if value[:2].lower() not in VERSIONS or not is_header:
+        return False
+    following = sum(len(group) for group in GROUP.findall(rest) if LETTER.search(group))
+    return bool(FILL.search(value)) or following >= LEAST_REST
 
 
 def size(group: str) -> int:

@@ -10,9 +10,13 @@ from balisekit.engine.records import Form
 from balisekit.rules.checking import Checked
 from balisekit.rules.entries import Entry
 from balisekit.rules.line import Line
+from balisekit.rules.location import Identity
 from balisekit.rules.rule import Options
 from balisekit.tables.changed import Cells
 from balisekit.tables.model import Group, Row
+
+OTHER_IDENTITY = frozenset({"other_NID_C", "other_NID_BG"})
+"""The values of F3 that name another identity. What does not differ is not among them."""
 
 
 class Correction(NamedTuple):
@@ -81,6 +85,13 @@ class Evidence:
         (most, _), *_ = Counter((form["nid_c"], form["nid_bg"]) for form in own).most_common()
         return {"nid_c": most[0], "nid_bg": most[1]}
 
+    def identities(self, entry: Entry) -> Tuple[Identity, Identity]:
+        """The identity of a telegram that F3 names, and that of the first telegram of its group."""
+        form = self.forms[entry.rows[0]]
+        own = {"NID_C": form["nid_c"], "NID_BG": form["nid_bg"]}
+        other = {name: int(entry.values.get(f"other_{name}", value)) for name, value in own.items()}
+        return (own["NID_C"], own["NID_BG"]), (other["NID_C"], other["NID_BG"])
+
     def named(self, entry: Entry) -> Set[int]:
         """The rows that an entry names."""
         return {*entry.rows, *entry.other_rows}
@@ -96,6 +107,11 @@ class Evidence:
                 counts[name] = counts.get(name, 0) + 1
         several = sorted((name for name, count in counts.items() if count > 1), key=lambda name: -counts[name])
         return [self.groups[name] for name in several if name in self.groups]
+
+
+def names_another_identity(entry: Entry) -> bool:
+    """Whether F3 says that a telegram has another NID_C or NID_BG, or both, than the first one of its group."""
+    return entry.rule == "F3" and not OTHER_IDENTITY.isdisjoint(entry.values) and len(entry.rows) == 1
 
 
 def with_values(form: Form, **values: Any) -> Form:

@@ -4,7 +4,7 @@ from __future__ import annotations
 from collections import Counter
 from typing import Iterator, Tuple
 
-from balisekit.rules.corrections.correction import Correction, Evidence, with_values
+from balisekit.rules.corrections.correction import Correction, Evidence, names_another_identity, with_values
 from balisekit.rules.link_steps import counted as steps_of_chain
 from balisekit.rules.location import Identity
 from balisekit.tables.model import Group
@@ -17,9 +17,8 @@ NEAR = 100
 def suggest(evidence: Evidence) -> Iterator[Correction]:
     """One telegram with another identity than the rest of its group, then groups that links call otherwise."""
     for entry in evidence.entries:
-        if entry.rule == "F3" and "other_NID_C" in entry.values and len(entry.rows) == 1 and entry.group:
-            identity = int(entry.values["other_NID_C"]), int(entry.values["other_NID_BG"])
-            yield _of_telegram(evidence, entry.group, entry.rows[0], identity)
+        if names_another_identity(entry) and entry.group:
+            yield _of_telegram(evidence, entry.group, entry.rows[0], *evidence.identities(entry))
     for group, identity, links in _called(evidence):
         yield _of_group(evidence, group, identity, links)
     for entry in evidence.entries:
@@ -38,15 +37,13 @@ def _in_one(earlier: Group, group: Group) -> Correction:
     return Correction(earlier, rows, sentence, cells)
 
 
-def _of_telegram(evidence: Evidence, group: Group, row: int, identity: Identity) -> Correction:
-    form = evidence.forms[row]
-    own = form["nid_c"], form["nid_bg"]
+def _of_telegram(evidence: Evidence, group: Group, row: int, own: Identity, identity: Identity) -> Correction:
     sentence = (
         f"the telegram has the identity {own[0]}/{own[1]} (NID_C/NID_BG) instead of {identity[0]}/{identity[1]}, "
         "which all other telegrams of its group have"
     )
     values = dict(zip(("NID_C", "NID_BG", "other_NID_C", "other_NID_BG"), map(str, (*own, *identity))))
-    forms = {row: with_values(form, nid_c=identity[0], nid_bg=identity[1])}
+    forms = {row: with_values(evidence.forms[row], nid_c=identity[0], nid_bg=identity[1])}
     return Correction(group, (row,), sentence, forms=forms, values=values)
 
 

@@ -5,8 +5,7 @@ from itertools import combinations
 from typing import Dict, Iterator, Sequence, Tuple
 
 from balisekit.engine.records import Form
-from balisekit.rules.corrections.correction import Correction, Evidence, with_values
-from balisekit.rules.entries import Entry
+from balisekit.rules.corrections.correction import Correction, Evidence, names_another_identity, with_values
 from balisekit.tables.model import Aspect, Group
 from balisekit.tables.names import clean, quoted, rows_words
 
@@ -25,15 +24,10 @@ def suggest(evidence: Evidence) -> Iterator[Correction]:
 
 def _of_two_groups(evidence: Evidence) -> Iterator[Correction]:
     """Each two telegrams with the identity of the group of the other one."""
-    strange = [entry for entry in evidence.entries if entry.rule == "F3" and "other_NID_C" in entry.values]
-    for one, other in combinations([entry for entry in strange if len(entry.rows) == 1], 2):
-        if _identity(one, "") == _identity(other, "other_") and _identity(other, "") == _identity(one, "other_"):
+    for one, other in combinations(filter(names_another_identity, evidence.entries), 2):
+        if evidence.identities(one) == evidence.identities(other)[::-1]:
             group = evidence.groups[evidence.rows[one.rows[0]].group]
             yield from _exchange(evidence, group, [(one.rows[0], other.rows[0])])
-
-
-def _identity(entry: Entry, whose: str) -> Tuple[str, str]:
-    return entry.values[f"{whose}NID_C"], entry.values[f"{whose}NID_BG"]
 
 
 def _of_two_balises(evidence: Evidence) -> Iterator[Correction]:

@@ -26,7 +26,7 @@ from typing import (
 
 from balisekit.engine.program import Program, Text
 from balisekit.errors import TableError, TableErrors
-from balisekit.rules.corrections.correction import Correction, Evidence, Suggest
+from balisekit.rules.corrections.correction import Correction, Evidence, Suggest, names_another_identity
 from balisekit.rules.entries import Entry
 from balisekit.tables.changed import changed_table
 from balisekit.tables.model import Table
@@ -35,8 +35,6 @@ MOST, JUDGED = 40, 6_000
 """How many corrections of one stage are tried at most, and how many telegrams and entries are made again for them."""
 OF_PROFILES = {10: (12, 15, 21), 11: (12, 15, 21), 12: (12, 15, 27), 13: (12, 15, 27)}
 """The packets that findings of profiles compare, by the rule F."""
-STRANGE = "other_NID_C"
-"""A value of the finding F3 of one telegram with another identity than all others of its group."""
 NUMBER = re.compile(r"[+-]?\d(?:[\d.,]*\d)?")
 
 
@@ -118,7 +116,7 @@ def is_of_one_packet(entries: Sequence[Entry]) -> bool:
 
     A telegram of another group is one mistake, whatever its packets are.
     """
-    if any(entry.rule == "F3" and STRANGE in entry.values for entry in entries):
+    if any(map(names_another_identity, entries)):
         return True
     about = [_packets(entry) for entry in entries]
     known = [numbers for numbers in about if numbers]

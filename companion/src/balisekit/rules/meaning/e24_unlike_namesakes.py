@@ -2,8 +2,10 @@
 
 What it says. An aspect of one signal differs from the aspects of the same name at the other signals. It lacks a packet
 that they have, or one of its values is another one. The rule rests on SUBSET-026, 3.8 and 4.4.
-- A signal is a group in which most aspects have a packet 12 for one direction. At least five signals must have an
-  aspect of this name. Infill groups and groups with a refused telegram do not count.
+- A signal is a group in which at least half of the aspects have a packet 12 for one direction. At least five signals
+  must have an aspect of this name. Infill groups and groups with a refused telegram are not compared, and are counted.
+- If fewer aspects have a packet 12, the group is compared if at least five signals have each of half of its names.
+  Only the packets that it lacks are reported then, and it does not count as another signal.
 - A packet 12, 21, 27 or 80 lacks if at least four of five signals have it. Any other packet lacks if all other signals
   have it in the balise with the aspects. Packet 5 is not compared.
 - T_OL, D_STARTOL, V_RELEASEOL, V_RELEASEDP, T_SECTIONTIMER, D_SECTIONTIMERSTOPLOC, T_ENDTIMER, D_ENDTIMERSTARTLOC,
@@ -43,7 +45,7 @@ from __future__ import annotations
 
 from decimal import Decimal
 from functools import lru_cache
-from typing import Dict, FrozenSet, Iterator, List, Mapping, NamedTuple, Sequence, Tuple
+from typing import Collection, Dict, FrozenSet, Iterator, List, Mapping, NamedTuple, Sequence, Tuple
 
 from balisekit.etcs.geometry import DIRECTIONS
 from balisekit.etcs.packets import packet_name
@@ -51,42 +53,46 @@ from balisekit.rules.facts import counted, group_words
 from balisekit.rules.line import Line
 from balisekit.rules.location import Location
 from balisekit.rules.meaning.namesakes import (
-    AUTHORITY,
     LEAST,
     Case,
     Cases,
     Odd,
-    cases_of,
     contrary_orders,
     lacking,
+    namesakes_of,
     odd_speeds,
     odd_values,
     signals_of,
 )
 from balisekit.rules.meaning.siblings import lacking_in, said_of, turned_in
+from balisekit.rules.meaning.stops import stops_without_order
 from balisekit.rules.passages import GroupData
 from balisekit.rules.rule import Field, Options, Remark, Result, Rule, Urgency
 from balisekit.rules.telegrams import GRADIENTS, LINKING, SAYS_NOTHING, SPEEDS, Packet
 from balisekit.tables.names import quoted
 
 STOP_IN_SR = 137
-FEW = frozenset({12, GRADIENTS, SPEEDS, 80})
+OFTEN = frozenset({12, GRADIENTS, SPEEDS, 80})
 """The packets that one in five signals may lack too."""
 RARE = "aspects with a name that fewer than five signals have"
 
 
 def find(line: Line, options: Options) -> Result:
     """Compares the aspects of each name over the table."""
-    cases = cases_of(line.decoded)
+    cases, few, passed_over = namesakes_of(line.decoded)
     known = {name: own for name, own in cases.items() if signals_of(own) >= LEAST}
-    rare = sum(len(own) for name, own in cases.items() if name not in known)
+    rare = sum(len(own) for some in (cases, few) for name, own in some.items() if name not in known)
     parts: Dict[Tuple[str, Tuple[int, str]], List[Unlike]] = {}
     speeds = (each for each in odd_speeds(known) if each.sent * 5 <= options.greatest_speed)
-    for part in (*_lacking(known), *map(_of_value, (*odd_values(cases), *contrary_orders(cases), *speeds))):
+    ordered = stops_without_order(line.decoded).aspects
+    for part in (
+        *_lacking(known, few, ordered),
+        *map(_of_value, (*odd_values(cases), *contrary_orders(cases), *speeds)),
+    ):
         parts.setdefault((part.case.aspect, part.case.signal), []).append(part)
     found = [_remark(own, known.get(own[0].case.aspect, ())) for own in parts.values()]
-    looked_at = sum(len(own) for own in known.values())
-    return Result(found, looked_at, {RARE: rare} if rare else {}, is_optional=True)
+    looked_at = sum(len(own) + len(few.get(name, ())) for name, own in known.items())
+    return Result(found, looked_at, {**({RARE: rare} if rare else {}), **passed_over}, is_optional=True)
 
 
 class Unlike(NamedTuple):
@@ -98,22 +104,21 @@ class Unlike(NamedTuple):
     blamed: Sequence[Field] = ()
 
 
-def _lacking(cases: Cases) -> Iterator[Unlike]:
+def _lacking(cases: Cases, few: Cases, ordered: Collection[Tuple[int, str]]) -> Iterator[Unlike]:
     """The packets that an aspect lacks, together those that as many other signals have."""
-    for own in cases.values():
-        without: Dict[Tuple[int, ...], List[int]] = {}
+    for name, own in cases.items():
+        without: Dict[Tuple[int, int], Tuple[Case, List[int]]] = {}
         for number in sorted({packet.number for case in own for packet in case.packets if _is_of_aspect(packet)}):
-            some = lacking(own, number)
-            if number in FEW or signals_of(some) == 1:
-                lacks = set(map(id, some))
-                for place, case in enumerate(own):
-                    if id(case) in lacks and not _is_said_elsewhere(case, number):
-                        without.setdefault((place, signals_of(own) - signals_of(some)), []).append(number)
-        for (place, count), numbers in without.items():
+            some, having = lacking(own, few.get(name, ()), number)
+            if number in OFTEN or signals_of(some) == 1:
+                for case in some:
+                    if not _is_said_elsewhere(case, number, ordered):
+                        without.setdefault((id(case), having), (case, []))[1].append(number)
+        for (_, count), (case, numbers) in without.items():
             names = [f"{number} ({packet_name(number)})" for number in numbers]
             packets = f"packet{'s' if len(names) > 1 else ''} {', '.join(names)}"
-            words = f"it lacks {packets} in {own[place].direction} direction, which {count} other signals have"
-            yield Unlike(own[place], words, {"packets": Decimal(len(numbers))})
+            words = f"it lacks {packets} in {case.direction} direction, which {count} other signals have"
+            yield Unlike(case, words, {"packets": Decimal(len(numbers))})
 
 
 def _is_of_aspect(packet: Packet) -> bool:
@@ -122,11 +127,11 @@ def _is_of_aspect(packet: Packet) -> bool:
     return not is_fixed and packet.number != LINKING and packet.number not in SAYS_NOTHING
 
 
-def _is_said_elsewhere(case: Case, number: int) -> bool:
+def _is_said_elsewhere(case: Case, number: int, ordered: Collection[Tuple[int, str]]) -> bool:
     """Whether another finding names what an aspect lacks: the program, or the rule on the aspects of one group."""
     if case.speed and number in (GRADIENTS, SPEEDS):
         return True
-    if number == STOP_IN_SR and case.first(AUTHORITY) and not case.speed:
+    if number == STOP_IN_SR and (id(case.data), case.aspect) in ordered:
         return True
     return (case.aspect, case.direction) in _told(case.data)
 

@@ -40,7 +40,15 @@ from balisekit.etcs.variables import variable_name
 from balisekit.rules.decoded import tolerance_of_lengths
 from balisekit.rules.facts import counted, sender
 from balisekit.rules.line import Line
-from balisekit.rules.meaning.ends_at_groups import Compared, End, Value, at_one_place, ends_at_groups, usual_end
+from balisekit.rules.meaning.ends_at_groups import (
+    Compared,
+    End,
+    Value,
+    at_one_place,
+    depends_on_aspects,
+    ends_at_groups,
+    usual_end,
+)
 from balisekit.rules.meaning.words import merged, source
 from balisekit.rules.rule import Field, Options, Remark, Result, Rule, Urgency
 from balisekit.tables.names import describe_identity
@@ -53,19 +61,23 @@ COMPARED = (
     ("overlap", "v_releaseol"),
 )
 """The parts of an authority that are compared, and their keys. The first key of a part says whether it is there."""
+OF_ASPECTS = "without its overlap, which depends on the aspect"
+"""What is not compared in full."""
 Table = Mapping[Compared, "Counter[Value]"]
 """How many ends of the table have each value."""
 
 
 def find(line: Line, options: Options) -> Result:
     """Compares the authorities that end at one group."""
-    groups = ends_at_groups(line.decoded)
+    groups, left = ends_at_groups(line.decoded)
     table = {compared: Counter(end.value(*compared) for some in groups for end in some) for compared in COMPARED}
     found: List[Remark] = []
     for some in groups:
         for same in at_one_place(options, some):
             found += _compare(options, same, table)
-    return Result(merged(found), sum(map(len, groups)))
+            left[OF_ASPECTS] += len(same) if any(depends_on_aspects(same, each) for each in COMPARED) else 0
+    looked_at = sum(map(len, groups)) - left[OF_ASPECTS]
+    return Result(merged(found), looked_at, +left, is_optional=True)
 
 
 def _compare(options: Options, same: Sequence[End], table: Table) -> Iterator[Remark]:
@@ -110,4 +122,4 @@ def _remark(end: End, differing: Sequence[Tuple[Compared, End]]) -> Remark:
     return made._replace(compared=[each.passage.at(each.packet) for each in others], facts=facts)
 
 
-RULE = Rule("E25", "ends of authority at groups", __doc__ or "", find, Urgency.WRONG_INFORMATION)
+RULE = Rule("E25", "ends of authority", __doc__ or "", find, Urgency.WRONG_INFORMATION)

@@ -47,18 +47,23 @@ MODES, FASTEST, NATIONAL = 80, 20, 127
 SLOW = {0: "on sight", 1: "shunting"}
 """The modes in which the driver looks out, by M_MAMODE."""
 
+NOT_DECODED = "not decoded"
+"""Why a packet 80 is not looked at: it does not fit its layout."""
+
 
 def find(line: Line, options: Options) -> Result:
     """Looks at each mode profile in each message."""
     found: List[Remark] = []
-    count = 0
+    count, left = 0, 0
     for passage in line.decoded.passages:
         for packets in (passage.said, passage.infill):
-            for packet in packets:
-                if packet.number == MODES and "elements" in packet.form:
+            for packet in (each for each in packets if each.number == MODES):
+                if "elements" in packet.form:
                     count += 1
                     found += _look_at(options, passage, packet, packets)
-    return Result(merged(found), count)
+                else:
+                    left += 1
+    return Result(merged(found), count, {NOT_DECODED: left} if left else {})
 
 
 def _look_at(options: Options, passage: Passage, packet: Packet, packets: Sequence[Packet]) -> Iterator[Remark]:

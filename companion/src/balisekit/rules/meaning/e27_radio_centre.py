@@ -39,6 +39,7 @@ from typing import Any, Callable, Dict, Iterator, List, NamedTuple, Sequence
 from balisekit.rules.decoded import Owner
 from balisekit.rules.facts import counted, origin
 from balisekit.rules.line import Line
+from balisekit.rules.meaning.along import passed_over
 from balisekit.rules.meaning.radio_borders import TRANSITION, Centre, borders, centre_words
 from balisekit.rules.meaning.sent import Fault, located, remark, sent
 from balisekit.rules.meaning.words import merged
@@ -48,6 +49,7 @@ from balisekit.tables.names import rows_words
 
 SESSION, LAST_KNOWN = 42, 16_383
 """NID_PACKET of session management, and NID_RBC of the RBC that was known last."""
+NOT_DECODED = "not decoded"
 SHORT, NUMBER = "f" * 16, re.compile("[0-9]+f*")
 
 
@@ -73,10 +75,13 @@ class Call(NamedTuple):
         return f"{self.form['nid_radio']:016x}"
 
     @property
-    def is_compared(self) -> bool:
-        """Whether a train calls this number of this RBC."""
-        is_order = self.form.get("q_rbc", 1) == 1 and self.centre[1] != LAST_KNOWN
-        return is_order and self.digits != SHORT and bool(NUMBER.fullmatch(self.digits))
+    def left(self) -> str:
+        """Why it is not compared with other packets. Empty if a train calls this number of this RBC."""
+        if self.form.get("q_rbc", 1) != 1:
+            return "Q_RBC 0"
+        if self.centre[1] == LAST_KNOWN:
+            return "the RBC that was known last"
+        return "" if NUMBER.fullmatch(self.digits) else "no telephone number"
 
 
 def find(line: Line, options: Options) -> Result:
@@ -88,7 +93,11 @@ def find(line: Line, options: Options) -> Result:
         *_unlike(calls, lambda each: each.digits, lambda each: each.centre, _centre_words),
         *borders(line.decoded, options),
     ]
-    return Result(merged(found), len(calls))
+    left = Counter(call.left for call in calls if call.left) + passed_over(
+        line.decoded, lambda each: each.number == TRANSITION
+    )
+    left[NOT_DECODED] = sum("nid_radio" not in packet.form for _, packet in sent(line.decoded, SESSION, TRANSITION))
+    return Result(merged(found), len(calls) - sum(bool(call.left) for call in calls), +left, is_optional=True)
 
 
 def _wrong_digits(calls: Sequence[Call]) -> Iterator[Remark]:
@@ -108,7 +117,7 @@ def _unlike(
     """The packets whose value is not the usual one of their key."""
     by_key: Dict[Any, List[Call]] = {}
     for call in calls:
-        if call.is_compared:
+        if not call.left:
             by_key.setdefault(key(call), []).append(call)
     for own in by_key.values():
         counts = Counter(map(value, own))

@@ -33,16 +33,19 @@ How sure. 87 %, by practice and memory of the standard.
 """
 from __future__ import annotations
 
+from collections import Counter
 from decimal import Decimal
-from typing import Dict, Iterator, List, Sequence, Set, Tuple
+from typing import AbstractSet, Dict, Iterator, List, Sequence, Set, Tuple
 
 from balisekit.etcs.packets import packet_name
 from balisekit.etcs.raw_layouts import layout_of
+from balisekit.etcs.raw_packets import content_of
 from balisekit.etcs.variables import metres
 from balisekit.rules.decoded import tolerance_of_lengths
 from balisekit.rules.line import Line
 from balisekit.rules.meaning.along import parts, passed_over
 from balisekit.rules.meaning.conditions import LAYOUTS, Condition, conditions_of
+from balisekit.rules.meaning.sent import sent
 from balisekit.rules.meaning.words import at_place, merged, source
 from balisekit.rules.rule import Options, Remark, Result, Rule, Urgency
 
@@ -58,7 +61,17 @@ def find(line: Line, options: Options) -> Result:
         for part in parts(sorted(some, key=lambda each: each.place), near):
             found += _compare(line, options, part, near)
     lacks = passed_over(line.decoded, lambda packet: packet.number in trusted)
-    return Result.of_places(merged(found), looked_at, lacks)
+    return Result.of_places(merged(found), looked_at, lacks, +Counter(_left(line, trusted)))
+
+
+def _left(line: Line, trusted: AbstractSet[int]) -> Iterator[str]:
+    """Why conditions are not compared, of which the kilometres are known: once for each packet."""
+    for _, packet in sent(line.decoded, *LAYOUTS):
+        content = content_of(packet.form)
+        if packet.number not in trusted:
+            yield "layout not sure"
+        elif content is None or content.fault:
+            yield "not decoded"
 
 
 def _is_trusted(number: int, options: Options) -> bool:
@@ -71,20 +84,28 @@ def _compare(line: Line, options: Options, some: Sequence[Condition], near: int)
     """Those that differ from what most groups say, if no packet has both. Of two that differ one is reported."""
     firsts: Dict[Tuple[int, int], Condition] = {}
     groups: Dict[Tuple[int, int], Set[int]] = {}
-    packets: Dict[int, Set[Tuple[int, int]]] = {}
+    packets: Dict[int, List[Condition]] = {}
     for each in some:
         firsts.setdefault(each.says, each)
         groups.setdefault(each.says, set()).add(id(each.passage.group or each.passage.message))
-        packets.setdefault(id(each.packet), set()).add(each.says)
-    together = {frozenset(own) for own in packets.values()}
+        packets.setdefault(id(each.packet), []).append(each)
+    several = [own for own in packets.values() if len(own) > 1]
     order = {says: (-len(groups[says]), place) for place, says in enumerate(firsts)}
     for each in some:
         better = [one for one in firsts.values() if order[one.says] < order[each.says]]
         better = [one for one in better if abs(one.place - each.place) <= near]
         usual = min(better, key=lambda one: order[one.says], default=None)
         if usual and not _agree(line, options, each, usual):
-            if not any({each.says, usual.says} <= own for own in together):
+            if not any(_has_both(line, options, own, each, usual) for own in several):
                 yield _remark(line, each, usual)
+
+
+def _has_both(line: Line, options: Options, own: Sequence[Condition], one: Condition, other: Condition) -> bool:
+    """Whether a packet has both conditions, so that they are two."""
+    like_one, like_other = (
+        {index for index, each in enumerate(own) if _agree(line, options, each, wanted)} for wanted in (one, other)
+    )
+    return any(first != second for first in like_one for second in like_other)
 
 
 def _agree(line: Line, options: Options, one: Condition, other: Condition) -> bool:

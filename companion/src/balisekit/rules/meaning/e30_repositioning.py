@@ -29,7 +29,7 @@ How sure. 87 %, by practice and memory of the standard.
 from __future__ import annotations
 
 from collections import Counter
-from typing import Any, Iterator, List, Optional, Set, Tuple
+from typing import Any, Iterator, List, Optional, Sequence, Set, Tuple
 
 from balisekit.etcs.variables import metres
 from balisekit.rules.decoded import Decoded
@@ -43,6 +43,9 @@ from balisekit.rules.rule import Options, Remark, Result, Rule, Urgency
 from balisekit.rules.telegrams import LINKING, Link, Packet
 
 REPOSITIONING = 16
+NOT_KNOWN_WHERE = "a group that may have the packet 16 is refused, or its direction is not known"
+WITHOUT_LINKS = "no packet 5 of the message names a group"
+"""Why a link or a packet 16 is not compared."""
 
 
 def find(line: Line, options: Options) -> Result:
@@ -52,15 +55,20 @@ def find(line: Line, options: Options) -> Result:
     found: List[Remark] = []
     looked_at = 0
     lacks: Counter[str] = Counter()
+    others: Counter[str] = Counter()
+    is_known = None not in ways and not any(unread_of(decoded))
     for passage in decoded.passages:
         for packet in passage.said:
             unknown = [link for link in packet.links if not link.known] if packet.number == LINKING else []
             looked_at += bool(unknown) and not passage.lacks or packet.number == REPOSITIONING
             lacks[passage.lacks] += bool(unknown and passage.lacks)
-            for link in unknown:
+            others[NOT_KNOWN_WHERE] += bool(unknown) and not passage.lacks and not is_known
+            for link in unknown if is_known else ():
                 found += _announced(decoded, ways, passage, packet, link)
-            found += _section(options, passage, packet) if packet.number == REPOSITIONING else ()
-    return Result.of_places(merged(found), looked_at, +lacks)
+            if packet.number == REPOSITIONING:
+                others[WITHOUT_LINKS] += not _ends(passage)
+                found += _section(options, passage, packet)
+    return Result.of_places(merged(found), looked_at - sum(others.values()), +lacks, +others)
 
 
 def _announced(
@@ -68,7 +76,7 @@ def _announced(
 ) -> Iterator[Remark]:
     """A link to a group with a packet 16, if no group of the table has one."""
     place = passage.place(link.total)
-    if place is None or passage.way in ways or None in ways or any(unread_of(decoded)):
+    if place is None or passage.way in ways:
         return
     if decoded.is_inside(passage.track, place):
         words = (
@@ -80,10 +88,15 @@ def _announced(
         yield remark("E30", passage.at(packet, link.number), [Fault(words, values)])
 
 
+def _ends(passage: Passage) -> Sequence[Tuple[int, int]]:
+    """How far the groups are that packets 5 of a message name, and the units of the distances."""
+    return [(link.total, link.unit) for link in passage.links if link.known]
+
+
 def _section(options: Options, passage: Passage, packet: Packet) -> Iterator[Remark]:
     """A packet 16 whose section ends at none of the groups that the same message names."""
     form: Any = packet.form
-    ends: "list[Tuple[int, int]]" = [(link.total, link.unit) for link in passage.links if link.known]
+    ends = _ends(passage)
     if "l_section" not in form or not ends:
         return
     section = int(form["l_section"]) * packet.unit
@@ -98,4 +111,4 @@ def _section(options: Options, passage: Passage, packet: Packet) -> Iterator[Rem
         yield remark("E30", passage.at(packet), [Fault(words, values, [("l_section", None)])])
 
 
-RULE = Rule("E30", "repositioning", __doc__ or "", find, Urgency.WRONG_INFORMATION)
+RULE = Rule("E30", "packets and links of repositioning", __doc__ or "", find, Urgency.WRONG_INFORMATION)

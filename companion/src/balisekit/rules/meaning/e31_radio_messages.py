@@ -44,6 +44,8 @@ from balisekit.tables.names import describe_identity, describe_message
 MOVEMENT_AUTHORITY, REPORT, POSITIONS = 3, 136, (0, 1)
 """NID_MESSAGE of both messages, and NID_PACKET of position reports."""
 NOT_KNOWN_TIME, NOT_KNOWN_DISTANCE = 4_294_967_295, 32_767
+NOT_WHOLE = "a group of the table is refused"
+"""Why nobody knows whether the table has a group."""
 Place = Tuple[int, ...]
 """A position report: its group, distance and side."""
 
@@ -62,7 +64,8 @@ def find(line: Line, options: Options) -> Result:
         for report in _positions(form):
             found += _beyond(decoded, options, message, report)
             found += _at_once(reported, message, dict(form), report)
-    return Result(found, len(line.messages))
+    left = 0 if is_whole else sum(any(True for _ in _groups(form)) for _, form in line.messages)
+    return Result(found, len(line.messages) - left, {NOT_WHOLE: left} if left else {}, is_optional=True)
 
 
 def _groups(form: Any) -> Iterator[Any]:

@@ -43,7 +43,7 @@ from balisekit.rules.line import Line
 from balisekit.rules.location import Location
 from balisekit.rules.meaning.along import End, ends_of, ends_the_line
 from balisekit.rules.passages import GroupData
-from balisekit.rules.rule import Options, Remark, Result, Rule, Urgency
+from balisekit.rules.rule import REFUSED, Options, Remark, Result, Rule, Urgency
 from balisekit.rules.telegrams import AUTHORITIES, Packet, Telegram
 from balisekit.tables.model import Aspect
 from balisekit.tables.names import clean, listed, quoted
@@ -81,7 +81,8 @@ def find(line: Line, options: Options) -> Result:
     last = [each for each, own in moving if own and all(ends_the_line(line.decoded, end) for end in own)]
     least = [*last, *(each for each, own in moving if not own and _is_infill_of(line.decoded, each, last))]
     found = [_remark(each, Urgency.RULE_ONLY if each in least else None) for each, _ in moving]
-    return Result(found, len(line.decoded.controlled), notes=list(_note(stops)))
+    unread = sum(bool(each.group.unread) for each in line.decoded.controlled)
+    return Result(found, len(line.decoded.controlled) - unread, {REFUSED: unread}, list(_note(stops)), is_optional=True)
 
 
 def _alike(data: GroupData) -> Iterator[Alike]:

@@ -50,25 +50,29 @@ from balisekit.rules.facts import counted, sender
 from balisekit.rules.line import Line
 from balisekit.rules.location import Location
 from balisekit.rules.meaning.lacking_conditions import lacking_conditions
-from balisekit.rules.meaning.siblings import AUTHORITY, SIBLINGS, Moving, Said, lacking_in, said_of, turned_in
+from balisekit.rules.meaning.siblings import SIBLINGS, Moving, Said, lacking_in, said_of, turned_in
+from balisekit.rules.meaning.stops import packet_of_stop, stopping, stops_of, stops_without_order
 from balisekit.rules.passages import GroupData, Passage
-from balisekit.rules.rule import Options, Remark, Result, Rule, Urgency
-from balisekit.rules.telegrams import Packet
+from balisekit.rules.rule import REFUSED, Options, Remark, Result, Rule, Urgency
 from balisekit.tables.names import listed, quoted
 
-STOP_IN_SR, DANGER_FOR_SH = 137, 132
-STOPS, NAMED = 5, 5
-"""The fewest stop aspects of a table that are compared, and how many aspects are named."""
+DANGER_FOR_SH, NAMED = 132, 5
+"""NID_PACKET of danger for shunting, and how many aspects are named."""
 
 
 def find(line: Line, options: Options) -> Result:
     """Looks at the aspects of each group, then at the stop aspects of the table."""
-    groups = [
-        data for data in line.decoded.controlled if len(data.group.group.aspects) >= SIBLINGS and not data.group.unread
-    ]
+    several = [data for data in line.decoded.controlled if len(data.group.group.aspects) >= SIBLINGS]
+    groups = [data for data in several if not data.group.unread]
+    unread = len(several) - len(groups)
     found = [remark for data in groups for remark in (*_siblings(data), *_conditions(line, options, data))]
-    stops = [passage for data in line.decoded.speaking for passage in data.passages if _stops(passage)]
-    return Result([*found, *_without_stop(stops), *_without_danger(stops)], len(groups))
+    stops = stopping(line.decoded)
+    return Result(
+        [*found, *_without_stop(line), *_without_danger(stops)],
+        len(groups),
+        {REFUSED: unread} if unread else {},
+        is_optional=True,
+    )
 
 
 def _siblings(data: GroupData) -> Iterator[Remark]:
@@ -115,32 +119,17 @@ def _packets(numbers: Sequence[int]) -> str:
     return f"packet{'' if len(names) == 1 else 's'} {', '.join(names)}"
 
 
-def _stops(passage: Passage) -> List[Packet]:
-    """The packets 12 with V_MAIN 0."""
-    return [packet for packet in passage.said if packet.number == AUTHORITY and packet.form["v_main"] == 0]
-
-
-def _of_packet(passage: Passage) -> Tuple[int, str, int]:
-    """A stop aspect by its group and packet 12: with Q_DIR 2 that stops the trains of both directions."""
-    return id(passage.group), passage.aspect, id(_stops(passage)[0])
-
-
-def _without_stop(passages: Sequence[Passage]) -> Iterator[Remark]:
+def _without_stop(line: Line) -> Iterator[Remark]:
     """Stop aspects without a packet 137, if four of five have it with "stop". Its layout is balisekit's own."""
-    stops: Dict[Tuple[int, str, int], List[Passage]] = {}
-    for each in passages:
-        stops.setdefault(_of_packet(each), []).append(each)
-    said = [(own[0], [packet for each in own for packet in each.of(STOP_IN_SR)]) for own in stops.values()]
-    stopping = [first for first, packets in said if any(packet.form.get("q_srstop") == 0 for packet in packets)]
-    having, facts = len(stopping), [counted(map(sender, stopping))]
-    if len(stops) >= STOPS and having * 5 >= len(stops) * 4:
-        for passage in (passage for passage, packets in said if not packets):
-            words = (
-                'a stop aspect, V_MAIN 0 km/h, without a packet 137 (stop if in staff responsible) with "stop": '
-                f"{having} of {len(stops)} stop aspects of the table have it"
-            )
-            values = {"stop_aspects": Decimal(len(stops)), "with_packet_137": Decimal(having)}
-            yield Remark("E8", passage.at(_stops(passage)[0]), words, values=values, facts=facts)
+    stops = stops_without_order(line.decoded)
+    facts = [counted(map(sender, stops.having))]
+    for passage in stops.lacking:
+        words = (
+            'a stop aspect, V_MAIN 0 km/h, without a packet 137 (stop if in staff responsible) with "stop": '
+            f"{len(stops.having)} of {stops.stops} stop aspects of the table have it"
+        )
+        values = {"stop_aspects": Decimal(stops.stops), "with_packet_137": Decimal(len(stops.having))}
+        yield Remark("E8", passage.at(stops_of(passage)[0]), words, values=values, facts=facts)
 
 
 def _without_danger(stops: Sequence[Passage]) -> Iterator[Remark]:
@@ -154,11 +143,11 @@ def _without_danger(stops: Sequence[Passage]) -> Iterator[Remark]:
     for own in by_group.values():
         without = [each for each in own if not each.of(DANGER_FOR_SH)]
         is_odd = len(own) >= SIBLINGS and len(without) == 1 and without[0].aspect in names
-        if is_odd and _of_packet(without[0]) not in known:
-            known.add(_of_packet(without[0]))
+        if is_odd and packet_of_stop(without[0]) not in known:
+            known.add(packet_of_stop(without[0]))
             others = listed([quoted(each.aspect) for each in own if each is not without[0]], NAMED)
             words = f"a stop aspect without a packet 132 (danger for shunting information), which {others} have"
-            where, values = without[0].at(_stops(without[0])[0]), {"stop_aspects": Decimal(len(own))}
+            where, values = without[0].at(stops_of(without[0])[0]), {"stop_aspects": Decimal(len(own))}
             yield Remark("E8", where, words, values=values, facts=list(map(sender, own)))
 
 

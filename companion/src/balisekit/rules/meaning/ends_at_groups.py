@@ -52,24 +52,36 @@ class End(NamedTuple):
         return "absent" if form is None else value_words(key, form[key], around) or str(form[key])
 
 
-def ends_at_groups(decoded: Decoded) -> Sequence[Sequence[End]]:
-    """The authorities without a mode profile that end at a group, together those at one group."""
+UNKNOWN, WITH_MODES, FAR, INFILL = (
+    "by a message whose group is not in the table",
+    "with a packet 80",
+    "not at a group that packets 5 of its message name",
+    "behind a packet 136",
+)
+"""Why an authority is not compared."""
+
+
+def ends_at_groups(decoded: Decoded) -> Tuple[Sequence[Sequence[End]], "Counter[str]"]:
+    """The authorities that end at a group, together those at one group, and how many are not compared, and why."""
     found: Dict[Tuple[Identity, bool], List[End]] = {}
+    left: Counter[str] = Counter()
     for passage in decoded.passages:
-        if not passage.of(MODES) and passage.group is not None:
-            for end in _ends(passage):
-                found.setdefault((end.link.identity, end.link.nominal), []).append(end)
-    return list(found.values())
+        own = [packet for packet in passage.said if is_authority(packet)]
+        why = UNKNOWN if passage.group is None else WITH_MODES if passage.of(MODES) else FAR
+        ends = [end for packet in own for end in _end(passage, packet)] if why == FAR else []
+        left[why] += len(own) - len(ends)
+        left[INFILL] += sum(map(is_authority, passage.infill))
+        for end in ends:
+            found.setdefault((end.link.identity, end.link.nominal), []).append(end)
+    return list(found.values()), +left
 
 
-def _ends(passage: Passage) -> Iterator[End]:
-    """The authorities of a passage that end at a group of its packets 5."""
+def _end(passage: Passage, packet: Packet) -> Iterator[End]:
+    """An authority of a passage, if it ends at a group of its packets 5."""
     links = [link for link in passage.links if link.known]
-    for packet in passage.said:
-        if links and is_authority(packet):
-            link = min(links, key=lambda each: abs(each.total - packet.end))
-            if abs(link.total - packet.end) <= NEAR:
-                yield End(packet.end - link.total, passage, packet, link)
+    link = min(links, key=lambda each: abs(each.total - packet.end), default=None)
+    if link is not None and abs(link.total - packet.end) <= NEAR:
+        yield End(packet.end - link.total, passage, packet, link)
 
 
 def at_one_place(options: Options, some: Sequence[End]) -> Iterator[Sequence[End]]:
@@ -86,14 +98,14 @@ def at_one_place(options: Options, some: Sequence[End]) -> Iterator[Sequence[End
 def usual_end(same: Sequence[End], compared: Compared, table: "Counter[Value]") -> Optional[End]:
     """An end with the usual value. None if all have it, or if overlaps depend on the aspect."""
     counts = Counter(end.value(*compared) for end in same)
-    if len(counts) < 2 or compared[0] == "overlap" and _depends_on_aspects(same, compared[1]):
+    if len(counts) < 2 or depends_on_aspects(same, compared):
         return None
     return max(same, key=lambda each: (counts[each.value(*compared)], table[each.value(*compared)]))
 
 
-def _depends_on_aspects(same: Sequence[End], key: str) -> bool:
-    """Whether the aspects of one group give several values."""
+def depends_on_aspects(same: Sequence[End], compared: Compared) -> bool:
+    """Whether the aspects of one group give several overlaps."""
     values: Dict[int, Set[Value]] = {}
-    for end in same:
-        values.setdefault(id(end.passage.group), set()).add(end.value("overlap", key))
+    for end in same if compared[0] == "overlap" else ():
+        values.setdefault(id(end.passage.group), set()).add(end.value(*compared))
     return any(len(each) > 1 for each in values.values())

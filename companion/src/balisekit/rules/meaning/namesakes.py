@@ -2,7 +2,7 @@
 from __future__ import annotations
 
 from collections import Counter
-from typing import Any, Dict, Iterator, List, Mapping, NamedTuple, Optional, Sequence, Set, Tuple
+from typing import Any, Collection, Dict, Iterator, List, Mapping, NamedTuple, Optional, Sequence, Set, Tuple
 
 from balisekit.etcs.geometry import DIRECTIONS
 from balisekit.etcs.variables import Around, value_words, variable_name
@@ -16,6 +16,10 @@ GO = 1
 """The Q_SRSTOP and Q_ASPECT that let a train run."""
 LEAST = 5
 """The fewest signals whose aspects of one name are compared."""
+REFUSED = "aspects of groups with a refused telegram"
+INFILL = "aspects of groups whose packets 12 all follow a packet 136"
+FEW = "aspects of groups without a packet 12 in half of their aspects, for one direction"
+"""Why aspects are not compared."""
 KEYS: Mapping[str, Sequence[str]] = {
     "overlap": ("t_ol", "d_startol", "v_releaseol"),
     "danger_point": ("v_releasedp",),
@@ -103,36 +107,83 @@ class Odd(NamedTuple):
     usual: int
 
 
-def cases_of(decoded: Decoded) -> Cases:
+class Namesakes(NamedTuple):
+    """The aspects of the signals of a table by their names, and what is passed over."""
+
+    cases: Cases
+    few: Cases
+    """Of groups in which few aspects have a packet 12. Nothing is concluded from them about other groups."""
+    passed_over: Mapping[str, int]
+    """How many aspects of groups with several aspects are neither, by the reason."""
+
+
+def namesakes_of(decoded: Decoded) -> Namesakes:
     """The aspects of all signals by their names.
 
-    Infill groups and groups with a refused telegram are left out. A direction counts if most aspects of the group have
-    a packet 12 for it: the Q_DIR of a single one may be wrong.
+    A direction counts if most aspects of the group have a packet 12 for it: the Q_DIR of a single one may be wrong. If
+    fewer have one, the names of the aspects show that the group is a signal.
     """
     cases: Dict[str, List[Case]] = {}
+    few: Dict[str, List[Case]] = {}
+    passed_over: Dict[str, int] = {}
+    left: List[GroupData] = []
     for data in decoded.controlled:
-        if not data.group.unread and not any(passage.reference for passage in data.passages):
-            for case in _of_group(data):
-                cases.setdefault(case.aspect, []).append(case)
-    return cases
+        why = _why_not(data)
+        own = [] if why else list(_of_group(data, _counts(data)))
+        for case in own:
+            cases.setdefault(case.aspect, []).append(case)
+        if why:
+            passed_over[why] = passed_over.get(why, 0) + len(data.group.group.aspects)
+        elif not own:
+            left.append(data)
+    known = {name for name, some in cases.items() if signals_of(some) >= LEAST}
+    for data in left:
+        own = list(_by_names(data, known))
+        for case in own:
+            few.setdefault(case.aspect, []).append(case)
+        if not own:
+            passed_over[FEW] = passed_over.get(FEW, 0) + len(data.group.group.aspects)
+    return Namesakes(cases, few, passed_over)
 
 
-def _of_group(data: GroupData) -> Iterator[Case]:
-    """The aspects of a group, for the directions of its trains."""
-    said = {(passage.aspect, passage.direction): passage.said for passage in data.passages}
-    names = [aspect.name for aspect in data.group.group.aspects]
-    counts = {
-        direction: sum(any(packet.number == AUTHORITY for packet in said.get((name, direction), ())) for name in names)
-        for direction in DIRECTIONS
-    }
-    most = max(counts.values())
+def _why_not(data: GroupData) -> str:
+    """Why a group is not compared, whatever its aspects have."""
+    if data.group.unread:
+        return REFUSED
+    has_infill = any(passage.reference for passage in data.passages)
+    return INFILL if has_infill and not any(_counts(data).values()) else ""
+
+
+def _counts(data: GroupData) -> Mapping[str, int]:
+    """How many aspects of a group have a packet 12 for each direction."""
+    having = {(own.aspect, own.direction) for own in data.passages if any(p.number == AUTHORITY for p in own.said)}
+    return {direction: sum(own == direction for _, own in having) for direction in DIRECTIONS}
+
+
+def _of_group(data: GroupData, counts: Mapping[str, int]) -> Iterator[Case]:
+    """The aspects of a group, for the directions of its trains, if most of them have a packet 12."""
+    count, most = len(data.group.group.aspects), max(counts.values())
     own = [direction for direction in DIRECTIONS if counts[direction] == most]
-    if 2 * most >= len(names) and (len(own) == 1 or most == len(names)):
-        for direction in own:
-            for name in names:
-                packets = said.get((name, direction), ())
-                by_number = {packet.number: packet for packet in reversed(packets)}
-                yield Case(data, name, direction, packets, (id(data), direction), by_number)
+    if 2 * most >= count and (len(own) == 1 or most == count):
+        yield from _cases(data, own)
+
+
+def _by_names(data: GroupData, known: Collection[str]) -> Iterator[Case]:
+    """The aspects of a group with few packets 12, all for one direction, if other signals have most of its names."""
+    names = [aspect.name for aspect in data.group.group.aspects]
+    own = [direction for direction, count in _counts(data).items() if count]
+    if len(own) == 1 and 2 * sum(name in known for name in names) >= len(names):
+        yield from _cases(data, own)
+
+
+def _cases(data: GroupData, directions: Sequence[str]) -> Iterator[Case]:
+    """The aspects of a group in these directions."""
+    said = {(passage.aspect, passage.direction): passage.said for passage in data.passages}
+    for direction in directions:
+        for aspect in data.group.group.aspects:
+            packets = said.get((aspect.name, direction), ())
+            by_number = {packet.number: packet for packet in reversed(packets)}
+            yield Case(data, aspect.name, direction, packets, (id(data), direction), by_number)
 
 
 def signals_of(cases: Sequence[Case]) -> int:
@@ -140,16 +191,23 @@ def signals_of(cases: Sequence[Case]) -> int:
     return len({case.signal for case in cases})
 
 
-def _at(count: int) -> str:
-    """Where others agree: `at all 5 other signals`."""
+def _at(count: int, others: int = 0) -> str:
+    """Where others agree: `at all 5 other signals`, or `at 4 of 5 other signals`."""
+    if count < others:
+        return f"at {count} of {others} other signals"
     return f"at all {count} other signals" if count > 1 else "at 1 other signal"
 
 
-def lacking(cases: Sequence[Case], number: int) -> Sequence[Case]:
-    """The cases without a packet that at least four of five signals have."""
+def lacking(cases: Sequence[Case], few: Sequence[Case], number: int) -> Tuple[Sequence[Case], int]:
+    """The cases without a packet that at least four of five signals have, and how many signals have it.
+
+    `few` are cases that do not count among these signals.
+    """
     without = [case for case in cases if case.first(number) is None]
     having = signals_of(cases) - signals_of(without)
-    return without if signals_of(cases) >= LEAST and having * 5 >= signals_of(cases) * 4 else ()
+    if signals_of(cases) < LEAST or having * 5 < signals_of(cases) * 4:
+        return (), having
+    return [*without, *(case for case in few if case.first(number) is None)], having
 
 
 def odd_values(cases: Cases) -> Iterator[Odd]:
@@ -157,7 +215,7 @@ def odd_values(cases: Cases) -> Iterator[Odd]:
     by_part, alone = _values_of(cases), _lengths_of_one(cases)
     for (_, key), by_name in by_part.items():
         compared = {name: [each for each in own if not _is_of_a_place(each, alone)] for name, own in by_name.items()}
-        for own in compared.values():
+        for name, own in compared.items():
             numbers = [each.compared for each in own]
             counts = Counter(numbers)
             most = max(counts, key=counts.__getitem__, default=0)
@@ -167,9 +225,17 @@ def odd_values(cases: Cases) -> Iterator[Odd]:
             usual = own[numbers.index(most)]
             rest = signals_of([each.case for each in own]) - 1
             if rest >= LEAST - 1 and not _is_elsewhere(odd, compared):
+                others = _at(*_agreeing(by_name[name], odd[0].case.signal, usual))
                 for each in odd:
-                    words = f"{each.name} is {each.words}, and {usual.words} {_at(rest)} with it"
+                    words = f"{each.name} is {each.words}, and {usual.words} {others} with it"
                     yield Odd(each.case, each.packet, key, words, each.sent, usual.sent)
+
+
+def _agreeing(values: Sequence[Value], signal: Tuple[int, str], usual: Value) -> Tuple[int, int]:
+    """How many signals, apart from one, have the usual value at their aspect, and how many have any."""
+    others = [each for each in values if each.case.signal != signal]
+    some = ([each.case for each in others if each.compared == usual.compared], [each.case for each in others])
+    return signals_of(some[0]), signals_of(some[1])
 
 
 def _is_elsewhere(odd: Sequence[Value], compared: Mapping[str, Sequence[Value]]) -> bool:
@@ -233,12 +299,12 @@ def contrary_orders(cases: Cases) -> Iterator[Odd]:
             ]
             wrong = [each for each in values if _contradicts(each)]
             signals = {each.case.signal for each in wrong}
-            others = [each for each in values if each.case.signal not in signals]
-            if len(signals) == 1 and others:
-                for each in wrong:
+            for each in wrong if len(signals) == 1 else ():
+                other = next((one for one in values if one.sent != each.sent), None)
+                if other and other.case.signal not in signals:
                     words = f"{each.name} is {each.words}, although V_MAIN is {speed(each.case.speed)}"
-                    rest = f"{others[0].words} {_at(signals_of([other.case for other in others]))} with it"
-                    yield Odd(each.case, each.packet, key, f"{words}, and {rest}", each.sent, others[0].sent)
+                    rest = f"{other.words} {_at(*_agreeing(values, each.case.signal, other))} with it"
+                    yield Odd(each.case, each.packet, key, f"{words}, and {rest}", each.sent, other.sent)
 
 
 def _contradicts(value: Value) -> bool:

@@ -1,0 +1,140 @@
+"""The module of WebAssembly, by node: it answers where neither the library nor the program can be used.
+
+It contains the library for C. One process of node answers all calls, one after the other, and ends with this one.
+"""
+from __future__ import annotations
+
+import os
+import shutil
+from dataclasses import dataclass
+from functools import lru_cache
+from subprocess import DEVNULL, PIPE, Popen
+from threading import Lock
+from typing import ClassVar, List, Optional, Tuple
+
+from balisekit.engine import find_program
+from balisekit.engine.library import NO_MEMORY, Call, Fault, Library, _bytes
+from balisekit.engine.loaded_library import LoadedLibrary
+from balisekit.errors import NoAnswer
+
+OPTIONS: Tuple[List[str], ...] = (["--experimental-wasm-memory64"], [])
+"""What node needs for 64-bit memory: node 20 and 22 the option, which later ones no longer know."""
+HEAD = 80
+"""How many bytes the words before an input or an answer take, with blanks at their end."""
+SERVES = """import { readSync, writeSync } from "node:fs";
+import { pathToFileURL } from "node:url";
+const its = await import(pathToFileURL(process.argv[1]));
+const encoder = new TextEncoder(), decoder = new TextDecoder();
+function read(length) {
+    const data = new Uint8Array(length);
+    for (let at = 0; at < length;) {
+        const count = readSync(0, data, at, length - at);
+        if (count === 0) process.exit(0);
+        at += count;
+    }
+    return data;
+}
+function write(words, text) {
+    for (const data of [encoder.encode(words.join(" ").padEnd(80)), text]) {
+        for (let at = 0; at < data.length;) at += writeSync(1, data, at);
+    }
+}
+write([its.version], new Uint8Array());
+for (;;) {
+    const [name, length] = decoder.decode(read(80)).trim().split(" ");
+    const [command, radio] = name.split("_");
+    const answer = its[command](read(Number(length)), { radio: radio !== undefined });
+    const { reason, at, end } = answer.fault ?? { reason: 0, at: 0, end: 0 };
+    const text = encoder.encode(answer.text);
+    write([answer.status, text.length, reason, at, end], text);
+}
+"""
+"""What node runs: it reads a call, and writes the answer."""
+
+
+class Module(Library):
+    """The module at a path, with the methods of the library. OSError is raised if node is absent or cannot load it."""
+
+    def __init__(self, path: str) -> None:  # pylint: disable=super-init-not-called
+        self.path = path
+        self._lock = Lock()
+        node = shutil.which("node")
+        # (variables of node, such as NODE_OPTIONS, can make it run other code first)
+        known = {name: value for name, value in os.environ.items() if not name.startswith("NODE_")}
+        for options in OPTIONS if node else ():
+            words = [str(node), *options, "--input-type=module", "-e", SERVES, path]
+            self._node = Popen(words, stdin=PIPE, stdout=PIPE, stderr=DEVNULL, env=known)
+            try:
+                (self._its_version,) = self._words()
+                return
+            except EOFError:
+                self._node.communicate()
+        raise OSError(f"no node that loads {path}")
+
+    @property
+    def version(self) -> str:
+        return self._its_version
+
+    def _read(self, length: int) -> bytes:
+        assert self._node.stdout
+        data = self._node.stdout.read(length)
+        if len(data) < length:
+            raise EOFError
+        return data
+
+    def _words(self) -> List[str]:
+        return self._read(HEAD).decode("ascii").split()
+
+    def _record(self, name: str, data: bytes) -> Call:
+        return self._call(name, data)
+
+    def _call(self, name: str, data: bytes, times: int = 0, *_: object) -> Call:
+        """What the call of this name returns. `times` is only of use for the library."""
+        data = _bytes(data)
+        head = f"{name} {len(data)}".ljust(HEAD).encode("ascii")
+        name = f"{self.path}: {name}"
+        with self._lock:
+            try:
+                assert self._node.stdin
+                self._node.stdin.write(head + data)
+                self._node.stdin.flush()
+                status, length, *fault = map(int, self._words())
+                call = Call(name, status, self._read(length))
+            except (EOFError, OSError, ValueError) as error:
+                raise NoAnswer(f"no answer of {name}: node has ended") from error
+        if status >= NO_MEMORY:
+            raise call.no_answer("memory")
+        call.fault = Fault(*fault) if fault[0] else None
+        return call
+
+
+@lru_cache(maxsize=None)
+def opened(path: str) -> Optional[Module]:
+    """The module at this path. None if it cannot be used here."""
+    try:
+        return Module(path)
+    except OSError:
+        return None
+
+
+@dataclass(frozen=True)
+class LoadedModule(LoadedLibrary):
+    """The module that was stored with this balisekit. It answers as the program does."""
+
+    kind: ClassVar[str] = "module"
+
+    @classmethod
+    def stored(cls) -> Optional[LoadedModule]:
+        """The module of this balisekit. None if it is absent, of another version, or cannot be used here."""
+        stored = find_program.stored_module()
+        module = opened(stored.path) if stored else None
+        if stored is None or module is None or module.version != stored.about.get("version"):
+            return None
+        return cls(stored.path, stored.sha256, stored.about, None, find_program.ABOUT)
+
+    @property
+    def _library(self) -> Library:
+        module = opened(self.path)
+        if module is None:
+            raise NoAnswer(f"no answer of {self.path}: node does not load it")
+        return module
