@@ -319,3 +319,11 @@ def test_random_inputs():
     words = program(), SHARED, "--inputs=100", "--jobs=1"
     ran = run(("-B", TOP / "bench" / "compare.py", *words), path=sys.executable, timeout=None)
     assert ran.status == 0 and {*re.findall(r"\bF\d+", ran.stdout)} == {f"F{it}" for it in range(1, 17)}, ran
+
+
+def test_random_findings():
+    """balisekit reads the same of the line of JSON as of the report, for random documents, and ones that are spoiled."""
+    words = "--inputs=300", "--jobs=1"
+    ran = run(("-B", TOP / "bench" / "findings.py", *words), path=sys.executable, timeout=None)
+    assert ran.status == 0 and " different 0," in ran.stdout, ran
+    assert {*re.findall(r"\bF\d+", ran.stdout)} == {f"F{it}" for it in range(1, 17)} and " refused " in ran.stdout, ran

@@ -6,6 +6,7 @@ import hashlib
 import json
 import os
 import random
+import re
 import resource
 import shutil
 import subprocess
@@ -22,11 +23,11 @@ from conftest import library_under_test
 from telegrams import ALONE, FAULTY, MESSAGE, OTHER, SPARE
 
 import balisekit
-from balisekit.engine import find_program, loaded_library, program as engine
+from balisekit.engine import find_program, loaded_library, program as engine, records
 from balisekit.engine.grammar import Refusal
 from balisekit.engine.library import COMMANDS, Call, Library, opened
 from balisekit.engine.loaded_library import LoadedLibrary
-from balisekit.engine.program import Program
+from balisekit.engine.program import Program, Record
 from balisekit.engine.run import Run
 from balisekit.errors import NoAnswer
 
@@ -72,6 +73,20 @@ def test_the_library_answers_as_the_program(library: LoadedLibrary, program: Pro
     assert runs == [] and answers == said(program) and runs != []
     assert sum(isinstance(answer, Refusal) for answer in answers) > 2 * engine.FEW
     assert {answer.number for answer in answers if isinstance(answer, Refusal)} > {None, 1, 2, 3}
+
+
+def test_lines_of_a_program_are_compared_with_the_form_of_records(
+    library: LoadedLibrary, program: Program, monkeypatch: pytest.MonkeyPatch
+) -> None:
+    """Those of the library are not, which would take long: it is known by its checksum."""
+    for record in ("telegram", "message"):
+        monkeypatch.setattr(records, f"{record}_expression", lambda: re.compile("(?!)"))
+    answers = [*library.decode([ALONE]), *library.messages([MESSAGE])]
+    assert [type(answer) for answer in answers] == [Record, Record]
+    with pytest.raises(NoAnswer, match="no record of a telegram"):
+        list(program.decode([ALONE]))
+    with pytest.raises(NoAnswer, match="no record of a message"):
+        list(program.messages([MESSAGE]))
 
 
 @pytest.mark.parametrize(

@@ -31,6 +31,13 @@ impl<'a> Field<'a> {
         Field { raw, has_quotes }
     }
 
+    /// Whether the field has no text.
+    pub fn is_empty(&self) -> bool
+        ensures { result ≡ (length self.now == 0) }
+    {
+        self.raw.is_empty()
+    }
+
     /// The text of the field, if it can be lent: `None` if the field has doubled quotes. Then [`Field::text`] copies it.
     pub fn lent(&self) -> Option<&'a [u8]>
         ensures { IfSome result (λ text. text.now ≡ self.now) }

@@ -1,2 +1,12 @@
+pub mod Faults
+pub mod Text
+pub mod Heading
+pub mod Entries
+pub mod Groups
+pub mod Lists
+pub mod RowLists
+pub mod RowLaws
+pub mod Endings
+pub mod Pointed
 pub mod Table
 pub mod Laws

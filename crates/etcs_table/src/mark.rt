@@ -1,7 +1,7 @@
 //! `without_mark`: a text without its byte order mark.
 
 ghost use Rattle.std.specs.Prelude.{◌≡◌};
-ghost use Rattle.etcs_table.specs.Table.{without_mark};
+ghost use Rattle.etcs_table.specs.Text.{without_mark};
 
 // The byte order mark of UTF-8, which spreadsheets write at the start of a text.
 const MARK: [u8; 3] = [0xef, 0xbb, 0xbf];

@@ -10,7 +10,7 @@ from dataclasses import dataclass
 from os import uname
 from resource import RLIM_INFINITY, RLIMIT_STACK, getrlimit
 from threading import stack_size
-from typing import Any, ClassVar, Dict, Optional, Union
+from typing import Any, ClassVar, Dict, Optional, Pattern, Union
 
 from balisekit.engine import find_program
 from balisekit.engine.grammar import Finding, Refusal, Verdict
@@ -47,6 +47,10 @@ class LoadedLibrary(Program):
         """What `check` reports of a document of a line: an object, its JSON, or the pieces of its JSON."""
         call = self._library.findings(b"".join(pieces(document)))
         return answer(call.text)
+
+    def _matches(self, expression: Callable[[], Pattern[str]]) -> Callable[[str], object]:
+        """Each line that it writes is a record: by its checksum it is the library that this version knows."""
+        return bool
 
     def _answers(self, words: Sequence[str], lines: Sequence[bytes]) -> Iterator[Answer]:
         """What the command writes for each of these lines. A call reads a few of them, so that its text is short.

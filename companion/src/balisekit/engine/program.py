@@ -13,7 +13,7 @@ from collections.abc import Callable, Iterable, Iterator, Mapping, Sequence
 from contextlib import ExitStack
 from dataclasses import dataclass, field, replace
 from threading import Event
-from typing import IO, TYPE_CHECKING, Any, ClassVar, Dict, List, NamedTuple, Optional, Tuple, TypeVar, Union
+from typing import IO, TYPE_CHECKING, Any, ClassVar, Dict, List, NamedTuple, Optional, Pattern, Tuple, TypeVar, Union
 
 from balisekit.engine import find_program, grammar, records
 from balisekit.engine.grammar import Finding, Refusal, Verdict
@@ -141,7 +141,7 @@ class Program:
 
     def decode(self, lines: Iterable[str]) -> Iterator[Union[Record, Refusal]]:
         """A record, or the refusal, for each text of a telegram."""
-        is_telegram = records.telegram_expression().fullmatch
+        is_telegram = self._matches(records.telegram_expression)
         for answer in self._each(["decode"], lines):
             if isinstance(answer, Refusal):
                 yield answer
@@ -188,13 +188,17 @@ class Program:
 
     def readable_messages(self, texts: Iterable[str]) -> Iterator[Record]:
         """A record for each of these radio messages, all of which `check` can read."""
-        is_message = records.message_expression().fullmatch
+        is_message = self._matches(records.message_expression)
         for answer in self._each(["decode", "--radio"], texts):
             if isinstance(answer, Refusal):
                 raise self.no_answer("decode --radio", "it refuses a message that `check` can read")
             if not is_message(answer):
                 raise self.no_answer("decode --radio", f"no record of a message: {answer[:SHOWN]}")
             yield Record(answer)
+
+    def _matches(self, expression: Callable[[], Pattern[str]]) -> Callable[[str], object]:
+        """What tells whether a line is a record that `decode` writes: any program may have been named."""
+        return expression().fullmatch
 
     def _refusals(self, texts: Sequence[str]) -> Iterator[Optional[Refusal]]:
         """The refusal of each message, or None if `check` can read it."""

@@ -1,0 +1,9 @@
+use Rattle.std.proofs.Common.{◌∙◌, sym, rules, tests}
+use Rattle.std.proofs.lemmas.Iterator.{YieldsList-from_slice}
+use Rattle.std.proofs.lemmas.Iterator.Search.{any_from_yields_List}
+use Rattle.etcs_table.specs.Groups.{has_aspect}
+use Rattle.etcs_table.proofs.LoopLemmas.{list_any-pointed}
+use Rattle.etcs_table.proofs.aspects.some_have_aspect.Goals as goal
+
+pub returns : goal.returns
+returns c = any_from_yields_List (λ r. has_aspect r.now) _ _ _ c.any.ensures.ran (YieldsList-from_slice c.args.rows.now cc) (λ x b q k. search (rules, tests)) ∙ sym (list_any-pointed (λ f. has_aspect f) c.args.rows.now)
