@@ -64,12 +64,26 @@ def is_telegram(text: str) -> bool:
 
 
 def without_checksums(text: str) -> str:
-    """The text without words that have as many digits as checksums have, unless five have the same length."""
+    """The text without words that have as many digits as checksums have, unless five have the same length.
+
+    A word that looks like a telegram with fill, or like the first digits of one, stays.
+    """
     words = re.findall(r"[^\W_]+", text)
     sums = [word for word in words if HEXADECIMAL.issuperset(word) and len(word) in CHECKSUMS]
     if any(sum(len(each) == len(word) for each in sums) > 4 for word in sums):
         return text
-    return "".join("" if part in sums else part for part in re.split(r"([^\W_]+)", text))
+    parts = re.split(r"([^\W_]+)", text)
+    rests = ("".join(parts[at + 1 :]) for at in range(len(parts)))
+    return "".join("" if part in sums and not begins_telegram(part, rest) else part for part, rest in zip(parts, rests))
+
+
+def begins_telegram(word: str, rest: str) -> bool:
+    """Whether a word begins with a header of a telegram, and ends with fill or has ten digits with letters after it."""
+    bits = f"{int(word, 16):0{4 * len(word)}b}"
+    media, position, total, duplicate = bits[8], int(bits[9:12], 2), int(bits[12:15], 2), int(bits[15:17], 2)
+    is_header = word[:2].lower() in ("a0", "a1", "90", "91") and media == "0" and position <= total and duplicate < 3
+    after = sum(len(group) for group in groups_of(rest) if not group.isdecimal())
+    return is_header and (word.lower().endswith(("ffff", "0000")) or after >= 10)
 
 
 def are_digits(text: str) -> bool:

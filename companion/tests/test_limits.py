@@ -91,9 +91,9 @@ def releases(tmp_path_factory: pytest.TempPathFactory, program: Program) -> Rele
     "few, many, limit, words, wanted",
     [
         (400, 2400, 15, ["links", "OLD"], "links: "),
-        (100, 600, 15, ["draw", "OLD", "--track", "--force", "--svg", "OUT"], ""),
+        (400, 1600, 15, ["draw", "OLD", "--track", "--force", "--svg", "OUT"], ""),
         (120, 1200, 24, ["report", "OLD", "--only", "F", "--force", "--html", "OUT"], 'program: "no: findings '),
-        (110, 600, 30, ["report", "OLD", "--force", "--html", "OUT"], 'program: "no: findings '),
+        (400, 1600, 30, ["report", "OLD", "--force", "--html", "OUT"], 'program: "no: findings '),
         (100, 600, 22, ["diff", "OLD", "NEW", "--force", "--html", "OUT"], "groups added 0, removed 0; "),
     ],
     ids=["links", "draw", "report of findings", "report", "diff"],
@@ -104,7 +104,7 @@ def test_10000_groups(
     """Within the limit for 10,000 groups, and the time grows no faster than the number of groups.
 
     The start, which takes as long as some hundred groups, would hide that. So this process runs the commands, once
-    for few groups before they are measured.
+    for few groups before they are measured. So would the trial of corrections, which a table of 6,000 rows has not.
     """
     if "--html" in words:
         pytest.importorskip("jinja2")

@@ -209,8 +209,9 @@ def _entries_of_the_line() -> List[Dict[str, str]]:
     """Entries for all findings of the example table."""
     stop, infill = {"nid_bg": "103", "aspect": "red", "direction": "nominal"}, {"nid_bg": "201", "rule": "F9"}
     texts = [line.rsplit(",", 1)[1] for line in LINE.read_text("utf-8").splitlines()]
-    red, green = digest(texts[9:11]), digest([texts[19], texts[22]])
-    both = digest([texts[13]], [texts[14]])
+    # (what a finding has in a field with * is a line before its telegrams)
+    red, green = digest(texts[9:11]), digest(["aspect green", texts[19], texts[22]])
+    both = digest(["aspect red", texts[13]], ["aspect green", texts[14]])
     rows = [
         {**stop, "rule": "F10", "sha256": red},
         {**stop, "rule": "F12", "sha256": red},

@@ -3,6 +3,7 @@ from __future__ import annotations
 
 import csv
 import io
+import re
 from pathlib import Path
 from typing import Any, Callable, Dict, List
 
@@ -158,15 +159,14 @@ def test_what_a_star_accepts_is_counted(run: Run, table: Write, tmp_path: Path) 
     file = signed(run, path)
     one, *others = csv.DictReader(io.StringIO(file.read_text("utf-8")))
     assert one["rule"] == "F6"
-    entries(file, {**one, "balise": "*"}, *others)
+    entries(file, {**one, "balise": "*", "sha256": ""}, *others)
+    said = "\n".join(run("check", path, "--accepted", file)[1])
+    found = re.search("row 2: no sha256: the sha256 of the finding that it fits is ([0-9a-f]{64})", said)
+    assert found and found[1] != one["sha256"]
+    entries(file, {**one, "balise": "*", "sha256": found[1]}, *others)
     status, out, _ = run("check", path, "--accepted", file)
     assert status == 0
     assert out[-2:] == ["findings 2: accepted 2 (1 by *), open 0", "no open findings or remarks; accepted by *: 1"]
-    entries(file, {**one, "balise": "*", "sha256": ""}, *others)
-    assert (
-        f"{file}: row 2: no sha256: the sha256 of the finding that it fits is {one['sha256']}"
-        in run("check", path, "--accepted", file)[1]
-    )
 
 
 def test_a_message_with_the_name_star_has_none(run: Run, table: Write, tmp_path: Path) -> None:

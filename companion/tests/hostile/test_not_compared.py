@@ -28,7 +28,7 @@ FAR = "ends of authority (not at a group that packets 5 of its message name: 3"
         (with_packet("Signal 3", FIXED, raw(68, "1")), "E29: 1 of 1 track condition (not decoded: 1)"),
         (
             with_packet("Signal 6", FIXED, raw(16, f"01{500:015b}")),
-            "E30: 3 of 3 repositioning (no packet 5 of the message names a group: 3)",
+            "E30: 3 of 3 packets and links of repositioning (no packet 5 of the message names a group: 3)",
         ),
     ],
 )

@@ -73,6 +73,7 @@ class Module(Library):
 
     @property
     def version(self) -> str:
+        """What the module itself calls its version."""
         return self._its_version
 
     def _read(self, length: int) -> bytes:
