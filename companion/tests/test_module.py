@@ -2,13 +2,14 @@
 from __future__ import annotations
 
 import json
+import multiprocessing
 import shutil
 from pathlib import Path
-from typing import Iterator
+from typing import Iterator, Set
 
 import pytest
 from cases_of_program import TOP
-from telegrams import ALONE, MESSAGE, SPARE
+from telegrams import ALONE, MESSAGE, OTHER, SPARE
 from test_library import LINES, MESSAGES, said
 
 import balisekit
@@ -70,6 +71,45 @@ def test_documents(module: LoadedModule, program: Program) -> None:
     """The report or the refusal is that of the program."""
     for document in DOCUMENTS:
         assert module.check(document) == program.check(document)
+
+
+def numbers(its: Module, telegram: str, count: int) -> Set[str]:
+    """The answers to this telegram, decoded so many times."""
+    return {its.call(["decode"], f"{telegram}\n".encode()).text for _ in range(count)}
+
+
+def test_forked_processes(module: LoadedModule) -> None:
+    """Each has a node of its own, so none gets the answer of another one."""
+    its, context = Module(module.path), multiprocessing.get_context("fork")
+    wanted = {each: numbers(its, each, 1) for each in (ALONE, OTHER)}
+    said = context.Queue()
+
+    def work(telegram: str) -> None:
+        said.put((telegram, numbers(its, telegram, 40)))
+
+    processes = [context.Process(target=work, args=(each,)) for each in [*wanted] * 2]
+    for each in processes:
+        each.start()
+    answers = [said.get(timeout=60) for _ in processes]
+    for each in processes:
+        each.join()
+    assert sorted(answers, key=str) == sorted([*wanted.items()] * 2, key=str)
+    assert numbers(its, OTHER, 1) == wanted[OTHER]
+
+
+def test_an_interrupted_call(module: LoadedModule, monkeypatch: pytest.MonkeyPatch) -> None:
+    """Its answer is not that of the next call."""
+    its = Module(module.path)
+    wanted = numbers(its, OTHER, 1)
+
+    def interrupted() -> None:
+        raise KeyboardInterrupt
+
+    with monkeypatch.context() as patch:
+        patch.setattr(its, "_words", interrupted)
+        with pytest.raises(KeyboardInterrupt):
+            its.call(["decode"], f"{ALONE}\n".encode())
+    assert numbers(its, OTHER, 2) == wanted
 
 
 def test_records(module: LoadedModule, monkeypatch: pytest.MonkeyPatch) -> None:

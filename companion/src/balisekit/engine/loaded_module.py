@@ -1,6 +1,7 @@
 """The module of WebAssembly, by node: it answers where neither the library nor the program can be used.
 
-It contains the library for C. One process of node answers all calls, one after the other, and ends with this one.
+It contains the library for C. One process of node answers all calls, one after the other, and ends with this one. After
+a fork, and after a call that was interrupted, a new one begins: no call can get the answer of another one.
 """
 from __future__ import annotations
 
@@ -58,18 +59,30 @@ class Module(Library):
     def __init__(self, path: str) -> None:  # pylint: disable=super-init-not-called
         self.path = path
         self._lock = Lock()
+        self._begin()
+
+    def _begin(self) -> None:
+        """Starts node as a process of this one."""
         node = shutil.which("node")
         # (variables of node, such as NODE_OPTIONS, can make it run other code first)
         known = {name: value for name, value in os.environ.items() if not name.startswith("NODE_")}
         for options in OPTIONS if node else ():
-            words = [str(node), *options, "--input-type=module", "-e", SERVES, path]
+            words = [str(node), *options, "--input-type=module", "-e", SERVES, self.path]
             self._node = Popen(words, stdin=PIPE, stdout=PIPE, stderr=DEVNULL, env=known)
+            self._owner = os.getpid()
             try:
                 (self._its_version,) = self._words()
                 return
             except EOFError:
                 self._node.communicate()
-        raise OSError(f"no node that loads {path}")
+        raise OSError(f"no node that loads {self.path}")
+
+    def _end(self) -> None:
+        """Ends node, so that nobody reads what it has not answered yet. The next call begins with a new one."""
+        if self._owner == os.getpid():
+            self._node.kill()
+            self._node.wait()
+        self._owner = 0
 
     @property
     def version(self) -> str:
@@ -96,13 +109,19 @@ class Module(Library):
         name = f"{self.path}: {name}"
         with self._lock:
             try:
+                if self._owner != os.getpid():
+                    self._begin()
                 assert self._node.stdin
                 self._node.stdin.write(head + data)
                 self._node.stdin.flush()
                 status, length, *fault = map(int, self._words())
                 call = Call(name, status, self._read(length))
             except (EOFError, OSError, ValueError) as error:
+                self._end()
                 raise NoAnswer(f"no answer of {name}: node has ended") from error
+            except BaseException:
+                self._end()
+                raise
         if status >= NO_MEMORY:
             raise call.no_answer("memory")
         call.fault = Fault(*fault) if fault[0] else None
