@@ -37,6 +37,9 @@ dist=dist/x86_64-linux
 version=$(cat VERSION)
 # The key of --sign.
 key=
+# It has texts of docs/, which change more often than the program. So the gate and a trial take the page that was built, and
+# only a release needs the one that ABOUT lists.
+page=browser/balisecheck.html
 # What is handed out beside the program. The tarball has files of scripts/ and man/ at its top.
 handed=(man/balisecheck.1 balisekit scripts/install.sh scripts/verify-release README.md CHANGELOG.md ERRATA.md
     LICENSE-APACHE LICENSE-MIT SECURITY.md THIRD-PARTY.md companion dist/RELEASES dist/allowed_signers docs schemas
@@ -154,7 +157,7 @@ store() {
     { papers out/balisecheck; sed 1d out/LIBRARY; sed 1d out/TARGETS; } >"$dist/ABOUT"
     line="$version $(said commit "$dist") $(said sources "$dist")"
     grep -q "^$line $(said program "$dist") " dist/RELEASES || echo "$line $(said program "$dist") $(date -u +%F)" >>dist/RELEASES
-    for other in aarch64-linux/balisecheck x86_64-windows/balisecheck.exe; do
+    for other in aarch64-linux/balisecheck browser/balisecheck.html x86_64-windows/balisecheck.exe; do
         sum=$(said "$other" "$dist")
         grep -q "^$line $sum .* $other\$" dist/RELEASES || echo "$line $sum $(date -u +%F) $other" >>dist/RELEASES
     done
@@ -225,7 +228,7 @@ release() {
     is_committed "${handed[@]}" native VERSION dist crates.txt HANDLES crates
     is_right "$dist" 'scripts/release.sh store'
     [ "$(said version "$dist")" = "$version" ] || fail "the stored program is not $version: scripts/release.sh store"
-    are_targets "$dist/ABOUT" || fail "out/targets has not the files for other systems that ABOUT lists: scripts/targets"
+    are_targets "$dist/ABOUT" || fail "out/targets has not the files for other systems that ABOUT lists: scripts/targets, and scripts/release.sh store if a text of the page has changed"
     is_passed out/gate.log .ci/run
     grep -qx "== sources $(said sources "$dist")" out/gate.log || fail 'out/gate.log is from other sources: .ci/run | tee out/gate.log'
     is_passed out/edits.log 'tests/edits --all'
@@ -245,13 +248,15 @@ release() {
 
 # try DIR: of the files as they are here, committed or not.
 try() {
-    local program
+    local program built=none
     program=${BALISECHECK:-$(BALISECHECK_PATH=1 ./balisecheck)}
     papers "$program" >"$room/ABOUT"
     if cmp -s "$program" "$dist/balisecheck"; then
         sed -i "s/^kit .*/kit $(said kit "$dist")/" "$room/ABOUT"
         sed -n '/^archive \|^library /p' "$dist/ABOUT" >>"$room/ABOUT"
-        ! are_targets "$dist/ABOUT" || targets_of "$dist/ABOUT" >>"$room/ABOUT"
+        [ ! -e "out/targets/$page" ] || built=$(sum_of "out/targets/$page")
+        sed "s,^\($page\) .*,\1 $built," "$dist/ABOUT" >"$room/listed"
+        ! are_targets "$room/listed" || targets_of "$room/listed" >>"$room/ABOUT"
     fi
     pack "$1" "$program" "$room/ABOUT" -untested
     sums "$1"

@@ -95,6 +95,11 @@ def has_others(made):
     return "\nwasm64/" in text_of(made.with_name("tree") / STORED / "ABOUT")
 
 
+def has_page(made):
+    """Whether the release has the page for browsers, which is one of these files."""
+    return "\nbrowser/" in text_of(made.with_name("tree") / STORED / "ABOUT")
+
+
 def has_live_pages(folder, is_installed=True):
     """Links of pages lead to files. Only for a clone do pages of what is installed tell commands in the folder."""
     for page in [*folder.rglob("*.md"), *folder.rglob("METADATA")]:
@@ -146,6 +151,7 @@ def test_files(made):
     others += [f"balisecheck-{VERSION}-untested.tgz",
                *(f"balisekit-{VERSION}-0untested-py3-none-{it}.whl" for it in ("manylinux_2_17_aarch64", "any"))
                ] if has_others(made) else []
+    others += [f"balisecheck-{VERSION}-untested.html"] if has_page(made) else []
     assert sh(made.parent, "diff -r made again") == ""
     assert attempt(TOP, f"scripts/release.sh --try '{made}'") == (1, f"release: {made} is not empty\n")
     assert sorted(os.listdir(made)) == sorted([
@@ -165,7 +171,9 @@ def test_tarball(made):
     tree = made.with_name("tree")
     assert sh(tree, "sha256sum --quiet -c SHA256SUMS") == ""
     if sum_of(tree / "balisecheck") == sum_of(TOP / STORED / "balisecheck"):
-        about, stored = (text_of(it / STORED / "ABOUT").partition("\nkit ")[2].splitlines() for it in (tree, TOP))
+        # (the page for browsers is the one that was built, whose texts can have changed since it was stored)
+        texts = [re.sub(r"(?m)^(browser/\S+) .*", r"\1", text_of(it / STORED / "ABOUT")) for it in (tree, TOP)]
+        about, stored = (text.partition("\nkit ")[2].splitlines() for text in texts)
         own = [line for line in stored if "/" not in line]  # (the other files are here if scripts/targets built them)
         header = "crates/balisecheck_c/include/balisecheck.h"
         assert about in (stored, own) and all(sum_of(tree / name) == sum_of(TOP / name) for name in (
@@ -442,6 +450,8 @@ def test_other_systems(made, tmp_path):
         assert {*os.listdir(tmp_path / folder)} == {*sums} | papers | more
         assert {name: sum_of(tmp_path / folder / name) for name in sums} == sums
     assert os.access(tmp_path / folders["aarch64-linux"] / "balisecheck", os.X_OK)
+    if has_page(made):
+        assert sum_of(made / f"balisecheck-{VERSION}-untested.html") == dict(listed)["browser/balisecheck.html"]
 
 
 @pytest.fixture(scope="module", name="wheel_of_arm")

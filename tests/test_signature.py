@@ -75,7 +75,8 @@ def test_verified(room):
     status, said = verify(room)
     assert status == 0 and re.fullmatch(
         r'signature: Good "balisecheck-release" signature for balisecheck-release with ED25519 key SHA256:\S+\n'
-        r"files: 9, as listed\nsources: \w{64}, those of \S.*\naarch64-linux: 3 files, those of ABOUT\n"
+        r"files: 10, as listed\nsources: \w{64}, those of \S.*\naarch64-linux: 3 files, those of ABOUT\n"
+        r"browser: 1 file, the one of ABOUT\n"
         r"wasm64: 3 files, those of ABOUT\nx86_64-windows: 3 files, those of ABOUT\nverified: balisecheck 1\.2\.9\n", said)
     status, said = verify(room, "--key ../signers ../unpacked")
     assert status == 0 and "\nnote: " not in said and said.endswith("\nverified: balisecheck 1.2.9\n")
@@ -164,7 +165,8 @@ def test_other_sources(room, command, why):
 
 
 @pytest.mark.parametrize("archive, name", [
-    ("*-aarch64-linux*.tar.gz", "balisecheck"), ("*-x86_64-windows*.zip", "balisecheck.dll"), ("*.tgz", "balisecheck.d.mts")])
+    ("*-aarch64-linux*.tar.gz", "balisecheck"), ("*-x86_64-windows*.zip", "balisecheck.dll"), ("*.tgz", "balisecheck.d.mts"),
+    ("*.html", "balisecheck.html")])
 def test_other_systems(room, archive, name):
     """Each archive for another system has the files that ABOUT lists, even if the right key has signed other ones."""
     sh(room / "tree", "targets other; { sed '/[/]/d' $stored/ABOUT; sed 1d out/TARGETS; } >new; mv new $stored/ABOUT")

@@ -22,11 +22,12 @@ def refused(tree, why, words=""):
 
 
 def releases(tree):
-    """The numbers of the programs in dist/RELEASES, each of which has two more lines for other systems."""
+    """The numbers of the programs in dist/RELEASES, each of which has three more lines for other systems."""
     lines = [line.split() for line in (tree / "dist/RELEASES").read_text("utf-8").splitlines()[1:]]
     programs = [line for line in lines if len(line) == 5]
-    assert [line[0] for line in lines] == [line[0] for line in programs for _ in range(3)]
-    assert {line[5] for line in lines if len(line) == 6} == {"aarch64-linux/balisecheck", "x86_64-windows/balisecheck.exe"}
+    assert [line[0] for line in lines] == [line[0] for line in programs for _ in range(4)]
+    assert {line[5] for line in lines if len(line) == 6} == {
+        "aarch64-linux/balisecheck", "browser/balisecheck.html", "x86_64-windows/balisecheck.exe"}
     return [line[0] for line in programs]
 
 
@@ -50,7 +51,7 @@ def a_stored_program(kept, tmp_path):
 def test_store(stored):
     """To store again changes nothing. Each commit of sources gets a line in dist/RELEASES."""
     sh(stored, "scripts/release.sh store")
-    assert sh(stored, "git status --porcelain") == "" and sh(stored, f"grep -c ' {TODAY}' dist/RELEASES") == "3\n"
+    assert sh(stored, "git status --porcelain") == "" and sh(stored, f"grep -c ' {TODAY}' dist/RELEASES") == "4\n"
     sh(stored, "echo // >>crates/etcs_low/src/lib.rt; save; built one; scripts/release.sh store")
     assert releases(stored) == ["1.2.9"] * 2
 
@@ -93,7 +94,8 @@ def test_release(stored):
             (":", "the program in dist/x86_64-linux was built from other sources: scripts/release.sh store"),
             ("scripts/release.sh store", "not committed: "),
             ("save; mv out/targets out/other", "out/targets has not the files for other systems that ABOUT lists: "),
-            ("mv out/other out/targets", "no out/gate.log in which everything passed: .ci/run"),
+            ("mv out/other out/targets; echo >>out/targets/browser/balisecheck.html", "out/targets has not the files for "),
+            ("sed -i '$d' out/targets/browser/balisecheck.html", "no out/gate.log in which everything passed: .ci/run"),
             ("echo '9 passed, 1 failed' >out/gate.log", "no out/gate.log in which everything passed: .ci/run"),
             ("echo '10 passed, 0 failed' >out/gate.log", "out/gate.log is from other sources: .ci/run"),
             ("sed -i \"1i== sources $(dist/sources)\" out/gate.log", "no out/edits.log in which everything passed: "),
@@ -127,7 +129,7 @@ VERSIONED = ("ABOUT", "../../VERSION", "../../man/balisecheck.1", "../../CHANGEL
     ("rm ../../out/TARGETS", "the files for other systems are those that were built here"),
     ("sed -i '/wasm64/d' ABOUT ../../out/TARGETS", "ABOUT has these lines"),
     ("sed -i '/mjs/s/[0-9a]$/b/' ABOUT", "the files for other systems are those that were built here"),
-    ("sed -i '/exe/d' ../RELEASES", "dist/RELEASES lists the programs for other systems")])
+    *((f"sed -i '/{it}/d' ../RELEASES", "dist/RELEASES lists the programs for other systems") for it in ("exe", "html"))])
 def test_wrong(stored, command, why):
     """After the command in the folder of the stored program this test fails."""
     sh(stored, f"cd $stored; {command}")

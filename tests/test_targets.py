@@ -124,9 +124,13 @@ def limits(target, call, before):
 
 
 def said(path, case):
-    """What the program at this path answers to the words and the input of a case."""
+    """What the program at this path answers to the words and the input of a case.
+
+    Under load Wine loses its server at times, and says so. The program has not run then, and is asked once more.
+    """
     _, words, given, _ = case
-    return run(words, given, path=path)
+    answer = run(words, given, path=path)
+    return run(words, given, path=path) if answer.stderr.startswith("wine client error:") else answer
 
 
 @functools.lru_cache(None)

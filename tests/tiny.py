@@ -39,7 +39,7 @@ SHELL = r"""
     }
     targets() {
         echo "sources $(dist/sources)" >out/TARGETS
-        for it in aarch64-linux/{balisecheck,libbalisecheck.{a,so.0}} wasm64/{balisecheck.{d.mts,mjs},package.json} \
+        for it in aarch64-linux/{balisecheck,libbalisecheck.{a,so.0}} browser/balisecheck.html wasm64/{balisecheck.{d.mts,mjs},package.json} \
             x86_64-windows/balisecheck.{dll,exe,lib}; do
             mkdir -p out/targets/${it%/*}
             echo $1 $it >out/targets/$it

@@ -11,6 +11,7 @@ from random import Random
 from typing import Callable, Dict, List, Optional, Sequence, Tuple
 
 from legal_telegrams import INFINITE, Route, Site, Steps, Telegrams
+from meaning_line import Form, Row
 from meaning_mistakes import digits
 from meaning_mistakes_of_groups import raw
 
@@ -244,3 +245,32 @@ class LegalLine(Telegrams):
 def legal_line(kind: str, seed: int) -> LegalLine:
     """A line of one of KINDS."""
     return LegalLine(kind, seed)
+
+
+def with_limits(line: LegalLine) -> List[Row]:
+    """The rows of a line whose authorities end at the level border at the latest: trains may pass it by V_LOA.
+
+    Yellow lets them pass slowly, because the first signal of the other level is at danger. On some lines only green
+    lets them pass.
+    """
+    sites, rows = {site.name: site for site in line.sites}, line.rows
+    for row in rows:
+        site = sites[row.group].infill_of or sites[row.group]
+        border = sites.get(f"Border {site.track}")
+        for form in row.form["packets"]:
+            if border and site.kind != "fixed" and form["nid_packet"] == 12 and form["v_main"]:
+                is_yellow = row.aspect == line.habits.words[1]
+                _end_at(form, abs(border.place - site.place), (0 if line.habits.own else 12) if is_yellow else 20)
+    return rows
+
+
+def _end_at(form: Form, ahead: int, speed: int) -> None:
+    """Ends a packet 12 at this distance in decimetres, if it leads farther."""
+    unit, lengths = (1, 10, 100)[form["q_scale"]], [each["l_section"] for each in form["sections"]]
+    if (sum(lengths) + form["l_endsection"]) * unit <= ahead:
+        return
+    before = [total for total in accumulate(lengths) if total * unit < ahead]
+    form["sections"] = form["sections"][: len(before)]
+    form.update(l_endsection=round(ahead / unit) - (before or [0])[-1], end_speed=min(speed, form["v_main"]))
+    for part in ("overlap", "danger_point", "end_timer"):
+        form.pop(part, None)

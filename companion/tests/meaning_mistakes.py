@@ -45,9 +45,9 @@ def condition(distance: int, length: int = 300, kind: int = 9) -> Any:
     return raw(68, f"010{distance:015b}{length:015b}{kind:04b}{0:05b}")
 
 
-def on_sight(begin: int, speed: int = 40, length: int = 1500) -> Any:
-    """A packet 80 in metres and km/h."""
-    return raw(80, f"01{begin:015b}00{speed // 5:07b}{length:015b}{0:015b}0{0:05b}")
+def on_sight(begin: int, speed: int = 40, length: int = 1500, mode: int = 0) -> Any:
+    """A packet 80 in metres and km/h. The mode is on sight unless another M_MAMODE is given."""
+    return raw(80, f"01{begin:015b}{mode:02b}{speed // 5:07b}{length:015b}{0:015b}0{0:05b}")
 
 
 def announcement_by_radio(distance: int = 1000, centre: int = 2, number: str = "") -> Any:
@@ -126,6 +126,17 @@ def distances_in_tenths(rows: List[Row]) -> None:
         change(rows, "Signal 3", aspect, 27)["q_scale"] = 0
 
 
+def renamed(group: str, aspect: str, name: str) -> Change:
+    """An aspect of a group has another name."""
+
+    def rename(rows: List[Row]) -> None:
+        form_of(rows, group, aspect)
+        for row in rows:
+            row.aspect = name if (row.group, row.aspect) == (group, aspect) else row.aspect
+
+    return rename
+
+
 def links_shortened(rows: List[Row]) -> None:
     """The packets 5 of all signals name one group only."""
     for row in rows:
@@ -202,6 +213,7 @@ MISTAKES: Dict[str, Mistake] = {
     ),
     "E30": Mistake(SHORT, unknown_ahead(1000)),
     "E31": Mistake(SHORT, lambda rows: None, (movement_authority(3), movement_authority(77))),
+    "E32": Mistake(SHORT, renamed("Signal 3", YELLOW, "yelow")),
 }
 """A realistic mistake for each rule."""
 

@@ -1,6 +1,6 @@
 """Makes examples/meaning/plan.csv and plan.txt: `python3 companion/tests/plan_example.py`.
 
-The plan is that of examples/meaning/level-border.csv, with one cell for each of the rules X1 to X5 as the track is: the
+The plan is that of examples/meaning/level-border.csv, with one cell or row for each of the rules X as the track is: the
 telegrams differ there.
 """
 from __future__ import annotations
@@ -27,8 +27,12 @@ CHANGES: List[Tuple[str, str, str, str, str]] = [
     ("signal", "km", "17.500", "km", "17.450"),
     ("aspect", "name", "Signal 9/yellow", "value", "v=100 end=1500 overlap=200 release=onboard"),
     ("level", "km", "16.700", "km", "16.750"),
+    ("aspect", "name", "Signal 12/green", "name", "Signal 12/gren"),
+    ("group", "name", "Signal 15", "value", "id=352/16 balises=2 linked=yes"),
 ]
 """The changed cells: for each the row that it is in, by kind and a cell, and its column and text."""
+ADDED = {"kind": "signal", "km": "13.700", "way": "rising", "name": "Signal 3a"}
+"""A row at which no authority ends, after the last other one of its kind."""
 
 
 def rows_of(text: str) -> List[Cells]:
@@ -51,6 +55,8 @@ def plan() -> str:
     for kind, named, cell, column, value in CHANGES:
         (row,) = (each for each in rows if each["kind"] == kind and each[named] == cell)
         row[column] = value
+    last = max(index for index, row in enumerate(rows) if row["kind"] == ADDED["kind"])
+    rows.insert(last + 1, {**dict.fromkeys(rows[0], ""), **ADDED})
     return text_of(rows)
 
 

@@ -239,6 +239,12 @@ def test_messages_are_named(run: Run, table: Write) -> None:
         ([HEADING, entry(until="2026-02-30")], "row 2, column until: 2026-02-30 is no date"),
         ([HEADING, entry() + ",more,still"], "row 2: it has 15 cells, and the heading 13"),
         ([HEADING, entry(reason="a\nb")], "row 2, column reason: the cell contains a line end"),
+        (
+            [HEADING, entry(reason="#N/A")],
+            "row 2, column reason: #N/A is an error of the spreadsheet: its formula failed",
+        ),
+        ([HEADING, entry(who="#REF!")], "row 2, column who: #REF! is an error of the spreadsheet"),
+        ([HEADING, entry(until="#NAME?")], "row 2, column until: #NAME? is an error of the spreadsheet"),
         ([HEADING, '"open'], "row 2: a quote is not closed"),
     ],
 )
@@ -281,7 +287,7 @@ def test_proposed_entries_are_about_their_findings(run: Run, tmp_path: Path) -> 
         ("F10", ""),
         ("F12", ""),
         ("F9", "Infill, packet 136"),
-        ("F9", "Infill, packet 136"),
+        ("F9", ""),
         ("F11", ""),
         ("E24", ""),
         ("E15", ""),
@@ -289,7 +295,7 @@ def test_proposed_entries_are_about_their_findings(run: Run, tmp_path: Path) -> 
     signed = [[*row[:9], "J. Doe", "2026-05-28", *row[11:]] for row in rows[1:]]
     file.write_text(csv_writing.text(rows[0], signed), "utf-8")
     out = run("check", LINE, "--accepted", file)[1]
-    assert out[-2] == "findings 5, remarks 2: accepted 2, open 5; entries at fault 5"
+    assert out[-2] == "findings 5, remarks 2: accepted 1, open 6; entries at fault 6"
 
 
 def test_correct_data_is_recognized(run: Run, table: Write, tmp_path: Path) -> None:

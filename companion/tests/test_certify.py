@@ -2,9 +2,14 @@
 from __future__ import annotations
 
 import csv
+import errno
 import html
+import itertools
 import json
+import multiprocessing
+import os
 import re
+import subprocess
 from collections import Counter
 from pathlib import Path
 from types import SimpleNamespace
@@ -18,12 +23,13 @@ from link_tables import without_orientations
 from meaning_line import table
 from meaning_mistakes_of_groups import raw
 
+from balisekit.certificate import trials as trials_of_line
 from balisekit.certificate.certificate import Certificate
-from balisekit.certificate.judging import Answer, Baseline, Judge, rows_of_refusal
+from balisekit.certificate.judging import Answer, Baseline, Judge, Judgement, rows_of_refusal
 from balisekit.certificate.same_meaning import same_meaning
 from balisekit.certificate.trials import Trial, judged, trials
 from balisekit.engine.program import Program
-from balisekit.errors import TableError
+from balisekit.errors import NoAnswer, TableError
 from balisekit.mistakes import catalogue
 from balisekit.mistakes.mistake import Change, Mistake
 from balisekit.mistakes.of_fields import changed
@@ -301,7 +307,8 @@ def test_notes(run: Run, tmp_path: Path) -> None:
     _, checked, _ = run("check", *words)
     status, out, _ = run("certify", *words, "--minutes", "0.01", "--json", answer)
     begins = ("note: ", "no kilometres: ", "account: ", f"{entries}: row 2: ")
-    said = [line for line in checked if line.startswith(begins)]
+    rules = "note: D: Q_LINK 0, so L9 and E17 look for no link to the group"
+    said = [line for line in checked if line.startswith(begins) and line != rules]
     assert status == 0 and {begin for begin in begins for line in said if line.startswith(begin)} == {*begins}
     assert set(said) <= set(out)
     notes = json.loads(answer.read_text("utf-8"))["notes"]
@@ -325,6 +332,52 @@ def test_cover_of_a_report(run: Run, tmp_path: Path) -> None:
     path.write_text("[]", "utf-8")
     status, _, errors = run("report", LINE, "--html", page, "--force", "--certificate", path)
     assert status == 2 and "no certificate" in errors[0]
+
+
+def change(made: Any, *path: Any) -> None:
+    """Puts the last item of the path in the place that the others lead to, or deletes it if that is None."""
+    *keys, last, value = path
+    for key in keys:
+        made = made[key]
+    if value is None:
+        del made[last]
+    else:
+        made[last] = value
+
+
+def test_a_certificate_that_was_changed(run: Run, tmp_path: Path) -> None:
+    """The line on the cover is made of the figures, which have to agree."""
+    pytest.importorskip("jinja2")
+    path, page = tmp_path / "a.json", tmp_path / "r.html"
+    run("certify", LINE, "--per-kind", 1, "--minutes", "0.05", "--json", path)
+    right = json.loads(path.read_text("utf-8"))
+    kind = next(name for name, each in right["kinds"].items() if each["found"] < each["tried"])
+    field = next(iter(right["fields"]))
+    found = right["whole"]["found"]
+    all_found = {**right["whole"], "found": right["whole"]["tried"], "share": 100}
+    all_found.update(elsewhere=0, hinted=0, not_found=0)
+    at = next(at for at, each in enumerate(right["changes"]) if each["answer"] != "found")
+    for words in (
+        ["last_line", right["last_line"].replace(f" {found:,} ", f" {found + 1:,} ")],
+        ["whole", "found", found + 1],
+        ["whole", all_found],
+        ["whole", "share", 100],
+        ["kinds", kind, None],
+        ["kinds", kind, "found", right["kinds"][kind]["tried"]],
+        ["fields", field, None],
+        ["not_tried", right["not_tried"] + 1],
+        ["not_tried", -1],
+        ["incomplete", ["1 of 5 telegrams refused"]],
+        ["changes", at, "answer", "found"],
+        ["changes", at, None],
+    ):
+        made = json.loads(path.read_text("utf-8"))
+        change(made, *words)
+        edited = tmp_path / "edited.json"
+        edited.write_text(json.dumps(made), "utf-8")
+        status, _, errors = run("report", LINE, "--html", page, "--force", "--certificate", edited)
+        assert status == 2 and f"{edited}: the certificate was changed: " in errors[0], words
+    assert run("report", LINE, "--html", page, "--force", "--certificate", path)[0] == 0
 
 
 def test_certificate_of_other_files(run: Run, tmp_path: Path) -> None:
@@ -556,3 +609,54 @@ def test_note_with_another_number(program: Program) -> None:
         ),
     ):
         assert baseline._new_hints(Counter(hints)) == new
+
+
+@pytest.mark.parametrize("files", [13, 14, 15, 17])
+def test_with_few_files(files: int, tmp_path: Path) -> None:
+    """Fewer processes judge the changes, or none can be started. The command ends, too."""
+    words = ["bash", "-c", f'ulimit -n {files} || exit 9; exec "$@"', "sh", str(TOP / "balisekit"), "certify"]
+    words += [str(LINE), "--per-kind", "1", "--minutes", "0.01"]
+    known = {**os.environ, "BALISEKIT_PYTHON": "/usr/bin/python3"}
+    done = subprocess.run(words, env=known, cwd=tmp_path, capture_output=True, check=False, timeout=100)
+    out, err = done.stdout.decode(), done.stderr.decode()
+    assert (done.returncode, "more were not tried" in out) in ((0, True), (3, False)), (out, err)
+    assert done.returncode == 0 or err.splitlines()[-1].startswith("balisekit: ") and not out
+
+
+@pytest.mark.parametrize("started", [0, 1, 3])
+def test_with_few_processes(started: int, program: Program, monkeypatch: pytest.MonkeyPatch) -> None:
+    """Those that could be started give the same answers. All of them end."""
+    baseline, made = tried(program, LINE, 1)
+    made, calls, real = made[:20], itertools.count(), multiprocessing.Pipe
+
+    def pipe() -> Any:
+        if next(calls) >= started:
+            raise OSError(errno.EMFILE, os.strerror(errno.EMFILE))
+        return real()
+
+    monkeypatch.setattr(trials_of_line, "Pipe", pipe)
+    monkeypatch.setattr(os, "sched_getaffinity", lambda _: set(range(4)))
+    if started:
+        found = trials_of_line.judgements(baseline, made, None, lambda _: None)
+        assert found == {place: judged(baseline, trial) for place, trial in enumerate(made)}
+    else:
+        with pytest.raises(NoAnswer, match="no process can be started: Too many open files"):
+            trials_of_line.judgements(baseline, made, None, lambda _: None)
+    assert not multiprocessing.active_children()
+
+
+@pytest.mark.parametrize("how", ["raises", "ends"])
+def test_a_process_that_fails(how: str, program: Program, monkeypatch: pytest.MonkeyPatch) -> None:
+    """What one raises is raised here, and one that ends too early is named."""
+
+    def fails(*_: object) -> Judgement:
+        if how == "ends":
+            os._exit(1)
+        raise ValueError("no judgement")
+
+    baseline, made = tried(program, LINE, 1)
+    monkeypatch.setattr(trials_of_line, "judged", fails)
+    why = "no judgement" if how == "raises" else "a process that judges changes has ended too early"
+    with pytest.raises(ValueError if how == "raises" else NoAnswer, match=why):
+        trials_of_line.judgements(baseline, made[:20], None, lambda _: None)
+    assert not multiprocessing.active_children()

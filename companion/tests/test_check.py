@@ -507,6 +507,13 @@ def test_a_heading_that_may_be_mistyped(run: Run, table: Write, tmp_path: Path) 
     assert said in html.unescape((tmp_path / "r.html").read_text())
 
 
+def test_a_heading_that_is_skipped_was_not_mistyped(run: Run, table: Write) -> None:
+    """Nothing is suggested in place of it. Another heading that is passed over still gets its suggestion."""
+    path = table("group,telegram,km,nominl", f"A,{ALONE},1.000,rising")
+    out = run("check", path, "--skip-column", "KM")[1]
+    assert 'columns passed over: km, nominl (did you mean "nominal"?)' in out
+
+
 def test_a_traceback_is_for_debug_alone(run: Run, table: Write, monkeypatch: pytest.MonkeyPatch) -> None:
     path = table("group,telegram", ",00")
     status, out, err = run("check", path, "--debug")  # (the status stays: 1 would be that of findings)

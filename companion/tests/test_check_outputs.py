@@ -211,7 +211,8 @@ def test_junit_has_a_suite_for_each_family(run: Run, table: Write, tmp_path: Pat
     assert run("check", LINKS, "--propose", file)[0] == 1
     assert run("check", LINKS, "--accepted", signed(file), "--junit", out, "--force")[0] == 0
     top = ElementTree.parse(out).getroot()
-    assert top.get("skipped") == "1" and top[1].get("skipped") == "1"
+    assert [suite.get("skipped") for suite in top] == ["0", "1", "1"] and top.get("skipped") == "2"
+    assert [case.get("name") for case in top[2] if case.find("skipped") is not None] == ["D"]  # (it has Q_LINK 0)
     assert "no open findings, links or remarks" in str(top[0].findtext("system-out"))
 
 

@@ -2,13 +2,15 @@
 from __future__ import annotations
 
 import json
+import re
 from decimal import Decimal
 from pathlib import Path
-from typing import Any, Dict, Iterator, List, Sequence, Tuple, cast
+from typing import Any, Callable, Dict, Iterator, List, Sequence, Tuple, cast
 
 import entries_of_mistakes
 import meaning_line
 import pytest
+from cases_of_program import TOP
 from conftest import Run
 from meaning_line import Line, Row
 from meaning_mistakes import form_of
@@ -118,6 +120,18 @@ def test_a_kilometre_with_exchanged_digits(run: Run, program: Program, tmp_path:
     listed, _ = answers(run, path, "--folded", "--force")
     assert sum(line.startswith("      ") for line in listed) == 3
     assert "remarks on what the data mean, by balisekit's own rules, not proved: all folded below other entries" in out
+
+
+def test_links_that_lead_to_nearly_one_place(run: Run, program: Program, tmp_path: Path) -> None:
+    """The sentence does not say that they would agree, but how far from that place they lead."""
+    path = written(program, tmp_path / "t.csv", Line(), moved("Signal 9", 270), moved("Signal 7", 4))
+    _, found = answers(run, path)
+    (sentence,) = {each["sentence"] for each in found["entries"] if "from its kilometre" in each["sentence"]}
+    assert re.fullmatch(
+        r"(all|\d of \d) links to and from Signal 9 differ by about 2\d\d(\.\d)? m from its kilometre: "
+        r"at km 2\d\.\d+ they would differ by at most 4(\.\d)? m",
+        sentence,
+    )
 
 
 def test_each_folded_remark_still_has_to_be_accepted(run: Run, program: Program, tmp_path: Path) -> None:
@@ -282,3 +296,62 @@ def test_entries_of_mistakes() -> None:
     counts = [len(each.entries) for each in seen]
     assert len(seen) >= 70 and sum(counts) <= 1.3 * len(seen) and max(counts) <= 4
     assert sum(each.is_at_row for each in seen) >= 0.95 * len(seen)
+
+
+def _changed(path: Path, example: str, change: Callable[[List[List[str]]], None]) -> Path:
+    """An example with changed cells. The first list has row 2 of the table."""
+    head, *lines = (TOP / "examples" / example).read_text("utf-8").splitlines()
+    cells = [line.split(",") for line in lines]
+    change(cells)
+    path.write_text("\n".join([head, *map(",".join, cells)]) + "\n", "utf-8")
+    return path
+
+
+def _entries_of(run: Run, path: Path) -> List[Dict[str, Any]]:
+    """The open entries that are not expected."""
+    output = path.with_suffix(".json")
+    run("check", path, "--json", output)
+    return [each for each in json.loads(output.read_text("utf-8"))["entries"] if not each["expected"]]
+
+
+def test_a_correction_may_uncover_another_mistake(run: Run, tmp_path: Path) -> None:
+    """With the right kilometres E15 compares an infill that it could not: that entry is not due to the correction."""
+
+    def exchange(cells: List[List[str]]) -> None:
+        for row in cells:
+            row[2] = {"16.900": "16.903", "16.903": "16.900"}.get(row[2], row[2])
+
+    found = _entries_of(run, _changed(tmp_path / "t.csv", "table/line.csv", exchange))
+    (entry,) = [each for each in found if "L2" in each["rules"]]
+    assert entry["sentence"].startswith("the kilometres of the balises of Signal D look exchanged")
+    assert entry["rows"] == [16, 17, 18, 19] and {"L2", "L3", "E14", "E19"} <= set(entry["rules"])
+
+
+def test_a_telegram_of_another_group_is_one_entry(run: Run, tmp_path: Path) -> None:
+    """Its own group lacks what its own telegram should say, which is no mistake of its own."""
+
+    def copy_down(cells: List[List[str]]) -> None:
+        cells[12][-1] = cells[11][-1]
+
+    (entry,) = _entries_of(run, _changed(tmp_path / "t.csv", "meaning/both-directions.csv", copy_down))
+    assert entry["rows"] == [14] and entry["rule"] == "F3" and len(entry["folded"]) == 14
+
+
+def test_a_trial_decodes_only_what_it_changes(
+    program: Program, tmp_path: Path, monkeypatch: pytest.MonkeyPatch
+) -> None:
+    """Suggestions need all telegrams: their line and their records. Trials decode only those that differ."""
+    path = written(program, tmp_path / "t.csv", Line(), moved("Signal 9", 270))
+    made = checking.check(program, reader.read(str(path)))
+    counts: List[int] = []
+    usual = checking._decoded
+
+    def counted(own: Program, rows: Sequence[Any], known: Any) -> Iterator[Any]:
+        counts.append(sum(row.telegram not in known for row in rows))
+        return usual(own, rows, known)
+
+    monkeypatch.setattr(checking, "_decoded", counted)
+    apply(made, tuple(FAMILIES), Options(), with_causes=False)
+    without = len(counts)
+    assert len(apply(made, tuple(FAMILIES), Options()).entries) == 1
+    assert [count for count in counts[without:] if count] == [60] * (without + 2) and 0 in counts

@@ -8,12 +8,14 @@ from typing import Any, Dict, List
 
 from conftest import Run
 from meaning_line import Line, Row
+from meaning_mistakes import INFILL, all_of, movement_authority, set_in
 from test_corrections import moved
 from test_meaning import written
 
 from balisekit.engine.program import Program
 
 PROFILES = (21, 27)
+END_MARK = {"d_gradient": 100, "q_gdir": 1, "g_a": 255}
 
 
 def without_profiles(rows: List[Row]) -> None:
@@ -53,6 +55,40 @@ def test_no_aspect_that_is_wrong_is_expected(run: Run, program: Program, tmp_pat
             (row["nid_bg"], row["aspect"]): row["reason"] for row in csv.DictReader(file) if row["rule"] == "F10"
         }
     assert reasons["9", "green"] == "" and reasons["8", "red"].startswith("Stop aspect")
+
+
+def test_no_infill_that_is_wrong_is_expected(run: Run, program: Program, tmp_path: Path) -> None:
+    """Neither F9 nor F11 and F13 of an infill that E15 names. Those of the other aspects of the group are expected."""
+    change_all = all_of(
+        set_in("Infill of Signal 4", "yellow", 12, l_endsection=2500),
+        set_in("Infill of Signal 4", "green", 21, elements=[{"d_gradient": 0, "q_gdir": 1, "g_a": 3}, END_MARK]),
+    )
+    path = written(program, tmp_path / "t.csv", INFILL, change_all)
+    found = entries(run, path)
+    doubted = {row for each in found if each["rule"] == "E15" for row in each["rows"]}
+    assert len(doubted) == 2 and {"F9", "F11", "F13"} <= {rule for each in found for rule in each["rules"]}
+    assert not [each for each in found if each["expected"] and not doubted.isdisjoint(each["rows"])]
+    assert [each["rows"] for each in found if each["expected"]] == [[15]]
+    proposal = tmp_path / "proposal.csv"
+    run("check", path, "--propose", proposal)
+    with proposal.open(encoding="utf-8", newline="") as file:
+        reasons = {row["aspect"]: row["reason"] for row in csv.DictReader(file) if row["rule"] == "F9"}
+    assert reasons["yellow"] == reasons["green"] == "" != reasons["red"]
+
+
+def test_no_message_that_is_wrong_is_expected(run: Run, program: Program, tmp_path: Path) -> None:
+    """F10 and F12 of a message without profiles, whose group the table does not have."""
+    path, messages = written(program, tmp_path / "t.csv", Line()), tmp_path / "m.txt"
+    for group, is_expected in ((3, True), (77, False)):
+        form = movement_authority(group)
+        form["packets"] = form["packets"][:1]
+        (text,) = program.encode([form], radio=True)
+        messages.write_text(f"{text.line}\n", "utf-8")
+        output = tmp_path / "t.json"
+        run("check", path, "--messages", messages, "--json", output, "--force")
+        found = json.loads(output.read_text("utf-8"))["entries"]
+        own = [each for entry in found for each in (entry, *entry["folded"]) if each["rule"] == "F10"]
+        assert own and {bool(each["expected"]) for each in own} == {is_expected}, own
 
 
 def test_a_counter_without_packet_254_is_no_default_telegram(run: Run, program: Program, tmp_path: Path) -> None:

@@ -95,6 +95,7 @@ def test_only(run: Run, program: Program, tmp_path: Path) -> None:
     status, out, _ = run("check", path, "--only", "E")
     assert status == 0 and out[1:] == [
         f"{MEANT} none",
+        "note: D: Q_LINK 0, so L9 and E17 look for no link to the group",
         "aspects found: 1 in 4 groups",
         "not judged: 6 telegrams in rows 2 to 7: --only E leaves out the program's findings F",
         "account: 6 telegrams in the file; 0 judged, 0 refused, 6 not judged; rows 2 to 7",
@@ -347,10 +348,36 @@ def test_checksums_of_remarks(run: Run, program: Program, tmp_path: Path) -> Non
 
 
 def test_findings_of_correct_data_come_last(run: Run, tmp_path: Path) -> None:
-    """A packet 136 of a sound infill is F9: a remark that needs action comes before it, and the counts are apart."""
+    """A packet 136 of a sound infill is F9: a remark that needs action comes before it, and the counts are apart.
+
+    F9 of the aspect that the remark is about is not expected, and is folded below the remark.
+    """
     status, out, _ = run("check", TOP / "examples/meaning/mistakes/E15.csv", "--json", tmp_path / "j.json")
     places = [next(at for at, said in enumerate(out) if words in said) for words in (": E15: ", "infill: expected")]
     assert status == 1 and places == sorted(places) and out[places[1] - 1] == headings.CORRECT
-    assert "3 findings of 1 cause, 0 to correct, 3 expected of correct data: F9 3; 6 of 7 groups without finding" in out
+    assert (
+        "3 findings of 2 causes, 1 to correct, 2 expected of correct data: F9 3; 6 of 7 groups without finding" in out
+    )
     made = json.loads((tmp_path / "j.json").read_text("utf-8"))["entries"]
-    assert [entry["rule"] for entry in made] == ["E15", "F9"]
+    assert [(entry["rule"], entry["rows"], entry["rules"]) for entry in made] == [
+        ("E15", [16], ["F9", "E15"]),
+        ("F9", [15, 17], ["F9"]),
+    ]
+
+
+def test_what_sound_lines_pass_over_is_one_line(run: Run, tmp_path: Path) -> None:
+    """With --all, and in JSON, each rule has its reasons. A rule with another reason always has its own line."""
+    path = TOP / "examples/meaning/line.csv"
+    short = [line for line in run("check", path)[1] if line.startswith("not compared")]
+    assert short == ["not compared, as of most lines: 3 of 30 ends of authority (E25); --all lists the reasons"]
+    status, out, _ = run("check", path, "--all", "--json", tmp_path / "j.json")
+    full = "not compared by E25: 3 of 30 ends of authority (beyond the last group of the track: 3)"
+    assert status == 0 and [line for line in out if line.startswith("not compared")] == [full]
+    rules = json.loads((tmp_path / "j.json").read_text("utf-8"))["rules"]
+    assert rules["E25"]["not_looked_at"] == {"beyond the last group of the track": 3}
+    cut = TOP / "examples/meaning/mistakes/E30.csv"
+    lines = [line for line in run("check", cut)[1] if line.startswith("not compared")]
+    assert lines == [
+        "not compared by E25: 5 of 12 ends of authority (not at a group that packets 5 of its message name: 2, beyond "
+        "the last group of the track: 3)"
+    ]

@@ -16,7 +16,8 @@ BELOW = {
     "tables": ("io",),
     "etcs": ("engine", "tables"),
     "engine": (),
-    "rules": ("engine", "etcs", "io", "tables"),
+    "design": ("tables",),
+    "rules": ("design", "engine", "etcs", "io", "tables"),
     "compare": ("engine", "etcs", "rules", "tables"),
     "mistakes": ("engine", "etcs", "rules", "tables"),
     "certificate": ("engine", "io", "mistakes", "rules", "tables"),
@@ -24,8 +25,8 @@ BELOW = {
     "present": ("certificate", "compare", "drawing", "engine", "etcs", "io", "rules", "tables"),
     "cli": ("certificate", "compare", "drawing", "engine", "etcs", "io", "present", "rules", "tables"),
 }
-"""The folders that each folder may import. All may import `balisekit.errors`, and themselves."""
-COMMON = ("errors", "__version__")
+"""The folders that each folder may import. All may import the modules of COMMON, and themselves."""
+COMMON = ("errors", "expressions", "__version__")
 
 
 def imports(path: Path) -> Iterator[str]:
@@ -62,3 +63,34 @@ def test_a_room_imports_only_rooms_below_it(room: str) -> None:
         if source == room and target not in (*BELOW[room], *COMMON)
     ]
     assert not wrong
+
+
+DECODERS = ("engine", "etcs", "rules")
+"""The folders with what reads telegrams, or knows how they are laid out."""
+
+
+def reached(module: str) -> List[str]:
+    """All modules of balisekit that a module imports, by whatever way."""
+    found, waiting = {module}, [module]
+    while waiting:
+        path = PACKAGE.parent.joinpath(*waiting.pop().split("."))
+        path = path / "__init__.py" if path.is_dir() else path.with_suffix(".py")
+        new = {name for name in imports(path) if name != "balisekit"} - found if path.exists() else set()
+        found |= new
+        waiting += new
+    return sorted(found)
+
+
+def test_the_design_needs_no_decoder() -> None:
+    """What it lets one expect is worked out without anything that reads telegrams: no mistake is on both sides."""
+    paths = list((PACKAGE / "design").glob("*.py"))
+    below = {name for path in paths for name in reached(f"balisekit.design.{path.stem}") if path.stem != "__init__"}
+    assert "balisekit.tables.chainage" in below and not [name for name in below if name.split(".")[1] in DECODERS]
+
+
+def test_kilometres_need_no_decoder() -> None:
+    """What serves both sides of a comparison with the design reads no telegrams, and what decodes them reaches it."""
+    below = reached("balisekit.tables.chainage")
+    assert "balisekit.tables.names" in below and not [name for name in below if name.split(".")[1] in DECODERS]
+    deciding = reached("balisekit.rules.decoded")
+    assert {"balisekit.tables.chainage", "balisekit.engine.records", "balisekit.etcs.geometry"} <= {*deciding}

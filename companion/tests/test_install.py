@@ -181,3 +181,9 @@ def test_no_start_script_is_run_for_these(words: str, monkeypatch: pytest.Monkey
     monkeypatch.setattr(program_file, "script_ahead", lambda: pytest.fail("it was run"))
     with cli._script_ahead(words.split()):
         pass
+
+
+def test_a_file_that_cannot_be_read(tmp_path: Path) -> None:
+    """Of a library whose mode forbids it, among others. (For root only a folder cannot be read.)"""
+    with pytest.raises(NoAnswer, match=f"^{tmp_path} cannot be read: Is a directory$"):
+        program_file.checksum(str(tmp_path))

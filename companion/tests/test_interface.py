@@ -9,6 +9,7 @@ import os
 import subprocess
 import sys
 import typing
+from dataclasses import replace
 from decimal import Decimal
 from pathlib import Path
 from typing import Any, Callable, List
@@ -198,7 +199,28 @@ def test_diff(run: Run, tmp_path: Path, program: Program) -> None:
     assert status == found.status == 2 and out == without_usual_opening(found.lines)
     assert not found.whole and found.unchanged == 1 and found.last_line == out[-1]
     written, answer = json.loads((tmp_path / "d.json").read_text("utf-8")), found.to_json()
-    assert {**answer, "settings": None} == {**written, "settings": None} and answer["groups_renumbered"]
+    for each in (written, answer):
+        for side in (each, each["old"], each["new"]):
+            del side["settings"]
+    assert answer == written and answer["groups_renumbered"]
+
+
+def test_diff_names_both_sides(tmp_path: Path, program: Program) -> None:
+    """Results that were made with other settings or another program name these, as text, page and JSON."""
+    paths = [tmp_path / name for name in ("old.csv", "new.csv")]
+    for path in paths:
+        path.write_text(f"group,telegram\nA,{ALONE}\n", "utf-8")
+    old = balisekit.check(paths[0], only="F", program=program)
+    new = balisekit.check(paths[1], program=program)
+    found, same = balisekit.diff(old, new), balisekit.diff(new, new)
+    assert "in old: settings: --only F" in found.lines
+    assert not [line for line in same.lines if line.startswith("in old: settings")]
+    sides = found.to_json()
+    assert [each["name"] for each in sides["old"]["settings"][0]["values"]] == ["--only"]
+    assert sides["new"]["settings"] == [] and sides["old"]["program"]["sha256"] == program.sha256
+    other = balisekit.check(paths[0], only="F", program=replace(program, sha256="0" * 64))
+    lines = balisekit.diff(other, new).lines
+    assert any(line.startswith("in old: balisecheck") and f"SHA-256 {'0' * 64}" in line for line in lines)
 
 
 def test_representations_are_short(program: Program) -> None:
@@ -236,7 +258,26 @@ def test_a_table_keeps_its_file_of_settings(program: Program, tmp_path: Path) ->
     settings = tmp_path / "project.toml"
     settings.write_text(f"[check]\nplan = '{PLAN / 'plan.csv'}'\n", "utf-8")
     table = balisekit.read_table(PLAN / "level-border.csv", columns=settings)
-    assert len(balisekit.check(table, program=program).of("X")) == 5
+    assert len(balisekit.check(table, program=program).of("X")) == 8
+
+
+def test_a_table_keeps_its_headings(program: Program, tmp_path: Path) -> None:
+    """Another file of settings may state limits, but other headings than those that were read are not passed over."""
+    limits, headings, same = (tmp_path / f"{name}.toml" for name in ("limits", "headings", "same"))
+    limits.write_text("[check]\nline_speed = 160\n", "utf-8")
+    headings.write_text('[columns]\nkm = "chainage"\n', "utf-8")
+    same.write_text('[columns]\nkm = "km"\n[check]\nline_speed = 120\n', "utf-8")
+    table = balisekit.read_table(LINE)
+    for file, speed in ((limits, 160), (same, 120)):
+        said = balisekit.check(table, columns=file, program=program).lines
+        assert any(f"check.line_speed = {speed}" in line for line in said)
+    why = f"{headings} states other headings than the usual ones, with which the table was read: give this file to"
+    with pytest.raises(balisekit.KitError, match=f"^{why} read_table too, as columns$") as raised:
+        balisekit.check(table, columns=headings, program=program)
+    assert raised.value.status == 2
+    own = balisekit.read_table(LINE, columns=same)
+    with pytest.raises(balisekit.KitError, match=f"{headings} states other headings than {same}, with which"):
+        balisekit.check(own, columns=headings, program=program)
 
 
 def test_the_settings_name_how_a_table_was_read(program: Program, tmp_path: Path) -> None:

@@ -6,7 +6,7 @@ from pathlib import Path
 from typing import Dict
 
 import pytest
-from legal_lines import KINDS, legal_line
+from legal_lines import KINDS, legal_line, with_limits
 from meaning_line import table
 
 from balisekit.engine.program import Program
@@ -40,6 +40,19 @@ def test_legal_lines(program: Program, tmp_path: Path, kind: str) -> None:
         assert outcome.whole, (seed, outcome)
         lines.update({entry.rule for entry in outcome.entries if not entry.expected})
     assert lines == NAMED.get(kind, {})
+
+
+def test_limits_of_authority(program: Program, tmp_path: Path) -> None:
+    """Authorities that end at a level border with V_LOA above 0, by the aspect: nothing is remarked."""
+    speeds, path = set(), tmp_path / "line.csv"
+    for seed in range(DESIGNS):
+        rows = with_limits(legal_line("level 2 border", seed))
+        path.write_text(table(program, rows), "utf-8")
+        outcome = apply(checking.check(program, reader.read(str(path))), tuple(FAMILIES), Options())
+        assert outcome.whole and not [entry for entry in outcome.entries if not entry.expected], (seed, outcome)
+        authorities = [form for row in rows for form in row.form["packets"] if form["nid_packet"] == 12]
+        speeds |= {(seed, form["end_speed"]) for form in authorities}
+    assert len({speed for _, speed in speeds}) > 2 and len(speeds) >= 2 * DESIGNS
 
 
 def test_kinds_differ() -> None:

@@ -40,6 +40,7 @@ from balisekit.engine.program import Program
 from balisekit.rules import checking, links, meaning
 from balisekit.rules.chainage import Jump
 from balisekit.rules.line import Line as LineOfTable
+from balisekit.rules.meaning import e22_temporary_restriction, ends_between, message_profiles
 from balisekit.rules.rule import ALL, Options, Remark, Result, Urgency
 from balisekit.tables import messages as messages_file, plan as plan_file, reader
 
@@ -207,6 +208,41 @@ def test_e12_of_a_group_without_a_kilometre(
     path.write_text("\n".join([head, *(lines if has_km else unplaced)]) + "\n", "utf-8")
     remarks = RULES["E12"].find(LineOfTable.of(checking.check(program, reader.read(str(path)))), ASKED).found
     assert len(remarks) == count, [each.sentence for each in remarks]
+
+
+def shorter(signal: int, metres: int = 700) -> Change:
+    """The authority of yellow ends so far in rear of the next signal."""
+    return added(f"Signal {signal}", YELLOW, "l_endsection", 12, -metres)
+
+
+def test_e12_between_groups(found: Found) -> None:
+    """No other authority leads there, and those of the other signals end at signals."""
+    (one,) = found("E12", SHORT, shorter(3))
+    assert one.sentence == (
+        "the authority ends at km 13.800 (800 m from the group) by L_SECTION and L_ENDSECTION, between groups: the "
+        "nearest one by the kilometres, Signal 4 (km 14.500), is 700 m from there, and those of 4 others end at groups"
+    )
+    assert one.location.row and (one.location.row.group, one.location.row.aspect) == ("Signal 3", YELLOW)
+    limit = set_in("Signal 3", YELLOW, 12, end_speed=8)
+    assert not found("E12", SHORT, all_of(shorter(3), limit))
+
+
+def test_e12_between_groups_by_several_signals(found: Found) -> None:
+    """Two of 15 are reported, and more are counted, as those whose packets 5 show no group beyond."""
+    line, three = Line(signals=15), [shorter(number) for number in (3, 6, 9)]
+    assert len(found("E12", line, all_of(*three[:2]))) == 2
+
+    def links_to_the_end(rows: List[Row]) -> None:
+        links = change(rows, "Signal 3", FIXED, 5)["links"]
+        links[:] = [{**links[0], "d_link": 300, "nid_bg": 99}]
+
+    for change_, why, count in (
+        (all_of(*three), ends_between.BETWEEN, 3),
+        (all_of(three[0], links_to_the_end), ends_between.NOT_BEYOND, 1),
+        (all_of(three[0], without_links), ends_between.NOT_BEYOND, 1),
+    ):
+        result = found.result("E12", line, change_)
+        assert not result.found and result.not_looked_at == {why: count}
 
 
 def test_e12_is_silent_beyond_a_point(found: Found) -> None:
@@ -617,8 +653,32 @@ def test_e17(found: Found) -> None:
         f"Signal {each}" for each in (1, 2, 3, 4)
     ]
     assert "and the packets 5 of this group and of those before it lead to km 11.500 only" in made[0].sentence
+    assert made[0].sentence.endswith("the last 1500 m are without links, although Signal 3 (km 13.000) follows")
     (one,) = found("E17", SHORT, without_links)
-    assert one.sentence == "no group or message has a packet 5 (linking), and authorities have a V_MAIN above 0"
+    assert one.sentence == (
+        "no group or message has a packet 5 (linking), and 12 authorities of 6 groups have a V_MAIN above 0"
+    )
+
+
+def test_e17_names_all_groups_without_a_link(found: Found) -> None:
+    """In the order of passing. From the sixth one on they are counted."""
+    made = found("E17", Line(signals=9, aspects=(RED, *"abcdefg")), meaning_mistakes.links_shortened)
+    longest = next(each.sentence for each in made if "ends at km 20.500" in each.sentence)
+    wanted = [f"Signal {number} (km {10 + 1.5 * (number - 1):.3f})" for number in (3, 4, 5, 6, 7)]
+    assert longest.endswith(f"although {', '.join(wanted)} and 1 more follow"), longest
+
+
+def test_e18_names_all_that_announce(found: Found) -> None:
+    """One remark is on all packets 41 for the place at which no group orders the level."""
+    (one,) = found("E18", BORDER, only(lambda row: row.group != "Border"))
+    assert one.location.row and one.words.endswith("in this direction; row 18 too"), one.words
+    assert [where.row and where.row.group for where in one.everywhere] == ["Signal 4", "Signal 5"]
+
+
+def test_e15_counts_the_other_fields(found: Found) -> None:
+    changes = [set_in(SITE, GREEN, 12, v_main=10), added(SITE, GREEN, "l_endsection", 12, -150)]
+    (one,) = found("E15", INFILL, all_of(*changes))
+    assert one.sentence.endswith(' aspect "green", row 21 (and 1 field more of it)'), one.sentence
 
 
 def test_e17_without_links_that_count_from_their_group(found: Found) -> None:
@@ -634,7 +694,7 @@ def test_e17_without_links_that_count_from_their_group(found: Found) -> None:
     assert one.sentence.startswith("no group or message has a packet 5 (linking) before a packet 136, and ")
     stops = only(lambda row: row.aspect in (FIXED, RED) or (row.group, row.aspect) == ("Signal 2", GREEN))
     (one,) = found("E17", SHORT, all_of(without_links, stops))
-    assert one.sentence.endswith(" and authorities have a V_MAIN above 0")
+    assert one.sentence.endswith(" and 1 authority of 1 group has a V_MAIN above 0")
 
 
 def test_e17_of_a_balise_that_is_linked_from_outside(found: Found) -> None:
@@ -884,10 +944,61 @@ def test_e13_of_q_front(found: Found) -> None:
     assert not found("E13", SHORT, all_of(*everywhere))
 
 
+def of_messages(found: Found, rule: str, line: Line, *forms: Any) -> Result:
+    """What a rule finds of a line with radio messages."""
+    path = written(found.program, found.path, line)
+    radio = path.with_name("m.txt")
+    texts = found.program.encode(list(forms), radio=True)
+    radio.write_text("".join(f"{text.line};M{place}\n" for place, text in enumerate(texts, 1)), "utf-8")
+    checked = checking.check(found.program, reader.read(str(path)), messages_file.read(str(radio)))
+    return RULES[rule].find(LineOfTable.of(checked), Options())
+
+
+def faster(group: int, number: int = 27) -> Any:
+    """A message 3 with another speed, or with gradients down instead of up."""
+    form = meaning_mistakes.movement_authority(group)
+    for element in next(each for each in form["packets"] if each["nid_packet"] == number)["elements"][:1]:
+        element.update({"v_static": 40} if number == 27 else {"q_gdir": 1 - element["q_gdir"], "g_a": 20})
+    return form
+
+
+def test_e13_of_messages(found: Found) -> None:
+    """The profiles of a message are compared with those of its group, or of the groups around it."""
+    right = meaning_mistakes.movement_authority(3)
+    sound = of_messages(found, "E13", SHORT, right)
+    assert (sound.found, sound.looked_at) == ([], found.result("E13", SHORT).looked_at + 2)
+    (one,) = of_messages(found, "E13", SHORT, right, faster(3)).found
+    assert one.location.message and one.location.message.name == "M2" and not one.rows
+    assert one.sentence.startswith("V_STATIC is 200 km/h from km 13.000 to km ")
+    assert ' km/h by Signal 3 (km 13.000), aspect "' in one.sentence
+    (one,) = of_messages(found, "E13", SHORT, faster(3, 21)).found
+    assert one.location.message and one.sentence.startswith("G_A is ")
+
+
+def test_e13_of_a_message_between_groups(found: Found) -> None:
+    """The group from which it counts gives no profile, so one in rear of it and those ahead are compared."""
+    made = of_messages(found, "E13", Line(border=0), faster(6000)).found
+    assert (
+        all(one.location.message for one in made) and "V_STATIC is 200 km/h from km 16.700 to km " in made[0].sentence
+    )
+    assert [where.group.group.name for where in made[0].compared if where.group] == ["Signal 5"]
+
+
+def test_e13_of_messages_without_profiles_beside(found: Found) -> None:
+    """Messages of which most differ, and those that no group is beside, are counted."""
+    count = found.result("E13", SHORT).looked_at
+    most = of_messages(found, "E13", SHORT, *([faster(3)] * 3), meaning_mistakes.movement_authority(3))
+    assert not most.found and most.not_looked_at == {message_profiles.MOST: 3} and most.looked_at == count + 5
+    unknown = of_messages(found, "E13", SHORT, faster(99))
+    assert not unknown.found and list(unknown.not_looked_at.values()) == [2]
+
+
 def test_e26(found: Found) -> None:
-    """What no train can follow, each by itself, and a mode that begins at the end of authority."""
+    """What no train can follow, each by itself. A mode may begin at a limit of authority, and shunting at each end."""
     for packet_, words in (
         (on_sight(1600), "D_MAMODE 1600 m is beyond the end of authority, 1500 m from the group"),
+        (on_sight(1500), "D_MAMODE 1500 m is at the end of authority, 1500 m from the group"),
+        (on_sight(1499), "D_MAMODE 1499 m is at the end of authority, 1500 m from the group"),
         (on_sight(0, 200), "V_MAMODE of the first mode is 200 km/h [40] on sight"),
         (on_sight(0, 40, 0), "L_MAMODE of the first mode is 0 m"),
     ):
@@ -895,8 +1006,13 @@ def test_e26(found: Found) -> None:
         assert one.sentence == words and one.location.row and one.location.row.aspect == YELLOW
     (one,) = found("E26", SHORT, with_packet("Signal 3", FIXED, on_sight(1000)))
     assert one.sentence == "D_MAMODE 1000 m is beyond the end of authority, 0 m from the group"  # (at red)
-    for packet_ in (on_sight(1500), on_sight(0, 100), on_sight(0, 635)):
+    for packet_ in (on_sight(1490), on_sight(0, 100), on_sight(0, 635), on_sight(1500, mode=1)):
         assert not found("E26", SHORT, with_packet("Signal 3", YELLOW, packet_))
+    (one,) = found("E26", SHORT, with_packet("Signal 3", YELLOW, on_sight(1600, mode=1)))
+    assert one.sentence.startswith("D_MAMODE 1600 m is beyond the end of authority")
+    assert not found("E26", SHORT, with_packet("Signal 3", RED, on_sight(0)))  # (its authority has no length)
+    limit = set_in("Signal 3", YELLOW, 12, end_speed=8)
+    assert not found("E26", SHORT, all_of(limit, with_packet("Signal 3", YELLOW, on_sight(1500))))
 
     def without_authority(rows: List[Row]) -> None:
         form_of(rows, "Signal 3", YELLOW)["packets"] = [on_sight(0)]
@@ -965,6 +1081,31 @@ def test_e28(found: Found) -> None:
     assert not found("E28", BOTH, alone)
 
 
+def test_e28_of_two_groups(found: Found) -> None:
+    """Two wrong packets of a line are reported, and three are counted. Packets 41 show that trains leave the line."""
+    line = Line(signals=15)
+    reverse = [with_packet(f"Signal {number}", FIXED, session(direction=0)) for number in (3, 7, 9)]
+    made = found("E28", line, all_of(*reverse[:2]))
+    assert [rows_named(each) for each in made] == [(10,), (26,)]
+    for each in made:
+        assert each.sentence == (
+            "it is for trains towards lower kilometres, as 1 other packet is, and all other packets for one direction, "
+            "in 15 groups of the track, are for trains towards greater kilometres"
+        )
+    level = {"nid_packet": 41, "q_dir": 0, "q_scale": 1, "d_leveltr": 32_767}
+    order = with_packet("Signal 7", FIXED, {**level, "transitions": [{"m_leveltr": 0, "l_ackleveltr": 0}]})
+    for change_, lane, count in (
+        (all_of(*reverse), line, 3),
+        (all_of(reverse[0], order), line, 2),
+        (all_of(*reverse[:2]), Line(signals=9), 2),
+    ):
+        result = found.result("E28", lane, change_)
+        assert not result.found and list(result.not_looked_at.values()) == [count]
+    assert found.result("E28", line, all_of(reverse[0])).not_looked_at == {}
+    (one, other) = found("E28", line, with_packet("Signal 3", FIXED, session(direction=0), revocation(7, 0)))
+    assert ", as 1 other packet is, and all other" in one.sentence and one.sentence == other.sentence
+
+
 def crossing(distance: int, length: int = 20) -> Any:
     """A packet 88 in metres."""
     return raw(88, f"01{5:08b}{distance:015b}{length:015b}0")
@@ -1010,6 +1151,45 @@ def test_e29_of_two_conditions(found: Found) -> None:
     usual = (with_packet(f"Signal {number}", FIXED, condition(5500 - 1500 * number)) for number in (1, 3))
     (one,) = found("E29", SHORT, all_of(*usual, with_packet("Signal 2", FIXED, condition(2600))))
     assert one.location.row and one.location.row.group == "Signal 2"
+
+
+def kinds(*own: int) -> Any:
+    """A packet 68 with conditions of these kinds at one place, which begins 1,000 m from its group."""
+    first, *more = own
+    rest = "".join(f"{0:015b}{300:015b}{kind:04b}" for kind in more)
+    return raw(68, f"010{1000:015b}{300:015b}{first:04b}{len(more):05b}{rest}")
+
+
+def test_e29_of_two_kinds(found: Found) -> None:
+    """Two aspects, or two groups, give one condition another kind. A message with both shows that there are two."""
+    (one,) = found(
+        "E29", SHORT, all_of(*(with_packet("Signal 4", at, kinds(n)) for at, n in ((YELLOW, 9), (GREEN, 3))))
+    )
+    assert one.location.row and one.location.row.aspect == GREEN and rows_named(one) == (17, 16)
+    assert one.sentence == (
+        "at km 15.500 (1000 m from the group) for 300 m, M_TRACKCOND is 3 (powerless section, lower pantograph), and 9 "
+        '(powerless section, switch off main power switch) by Signal 4 (km 14.500), aspect "yellow", row 16'
+    )
+    assert one.values == {"place_m": Decimal(15_500), "m_trackcond": Decimal(3), "other_m_trackcond": Decimal(9)}
+    third = with_packet("Signal 3", FIXED, condition(2500)), with_packet("Signal 2", FIXED, condition(4000, 300, 3))
+    (one,) = found("E29", SHORT, all_of(*third, with_packet("Signal 4", FIXED, kinds(9))))
+    assert rows_named(one) == (6, 10)
+    assert not found("E29", SHORT, all_of(*third, with_packet("Signal 4", FIXED, kinds(9, 3))))
+    elsewhere = with_packet("Signal 4", FIXED, kinds(9)), with_packet("Signal 3", FIXED, condition(2506, 300, 3))
+    assert not found("E29", SHORT, all_of(*elsewhere))
+    slippery = (raw(71, f"01{at:015b}{300:015b}{bit}") for at, bit in ((2500, 0), (1000, 1)))
+    (one,) = found(
+        "E29", SHORT, all_of(*(with_packet(f"Signal {n}", FIXED, each) for n, each in enumerate(slippery, 3)))
+    )
+    assert "M_ADHESION is 1 (non slippery rail), and 0 (slippery rail) by Signal 3 (km 13.000), row 10" in one.sentence
+
+
+def test_e29_counts_what_follows_a_packet_136(found: Found) -> None:
+    """Their distances count from another group. A packet that is not decoded is counted by that reason."""
+    line = Line(signals=6, infill=(3,))
+    behind = with_packet("Infill of Signal 4", YELLOW, condition(1000))
+    result = found.result("E29", line, all_of(behind, with_packet("Signal 3", FIXED, condition(2500))))
+    assert (result.found, result.looked_at, result.not_looked_at) == ([], 1, {"behind a packet 136": 1})
 
 
 def repositioning(section: int, announced: int = 16_383) -> Change:
@@ -1129,15 +1309,67 @@ def test_e21(found: Found) -> None:
 
 @pytest.mark.parametrize(
     "number, distance, length, speed, count",
-    [(7, 0, 500, 40, 1), (7, 4, 500, 40, 1), (255, 100, 500, 40, 0), (7, 5000, 500, 40, 0), (8, 100, 500, 40, 0)],
+    [(7, 0, 500, 40, 1), (7, 4, 500, 40, 1), (255, 100, 500, 40, 0), (7, 5000, 500, 40, 1), (8, 100, 500, 40, 0)],
 )
 def test_e22(found: Found, number: int, distance: int, length: int, speed: int, count: int) -> None:
-    """Places more than 2 km apart, other numbers, and restrictions without one, are not compared."""
+    """One number at two places is reported. Other numbers, and restrictions without one, are not compared."""
     changes = all_of(RESTRICTED, with_packet("Signal 4", FIXED, restriction(number, distance, length, speed)))
     made = found("E22", SHORT, changes)
     assert len(made) == count and all(rows_named(each) == (14, 6) for each in made)
     names = [f"{other}{name}" for other in ("", "other_") for name in ("d_tsr_m", "l_tsr_m", "v_tsr_kmh")]
     assert all(list(each.values) == names for each in made)
+
+
+def test_e22_of_one_number_far_apart(found: Found) -> None:
+    """Two restrictions with one number that are 19.5 km apart are reported, and at 21 km they are counted."""
+    for number, groups, counts in ((15, 1, 2), (16, 0, 0)):
+        far = with_packet(f"Signal {number}", FIXED, restriction(7, 500, 500, 40))
+        made = found.result("E22", Line(signals=16), all_of(with_packet("Signal 2", FIXED, far_away()), far))
+        assert (len(made.found), made.looked_at) == (groups, counts)
+        assert made.not_looked_at == ({} if groups else {e22_temporary_restriction.FAR: 2})
+    line = Line(signals=16)
+    two = with_packet("Signal 16", FIXED, restriction(7, 500, 500, 40), restriction(8, 500, 500, 40))
+    made = found.result("E22", line, all_of(with_packet("Signal 2", FIXED, far_away()), two))
+    assert not made.found and not made.is_empty and made.looked_at == 1
+
+
+def test_e22_of_one_restriction(found: Found) -> None:
+    """One packet has another number, or another Q_FRONT. A number of another restriction is one remark too."""
+    second = with_packet("Signal 2", FIXED, restriction(7, 2500, 500, 40))
+    third = with_packet("Signal 3", FIXED, restriction(7, 1000, 500, 40))
+    for number, said in ((8, "8"), (255, "255 (not revocable)")):
+        off = with_packet("Signal 3", FIXED, restriction(number, 1000, 500, 40))
+        (one,) = found("E22", SHORT, all_of(second, off))
+        assert one.sentence == (
+            f"NID_TSR of the restriction at km 14.000 (1000 m from the group), 500 m with 40 km/h is {said}, and 7 by "
+            "Signal 2 (km 11.500), row 6"
+        )
+        assert one.blamed == [(10, 1, "nid_tsr", None)] and rows_named(one) == (10, 6)
+    front = with_packet("Signal 3", FIXED, raw(65, f"01{7:08b}{1000:015b}{500:015b}1{8:07b}"))
+    (one,) = found("E22", SHORT, all_of(second, front))
+    assert "Q_FRONT of the restriction at km 14.000" in one.sentence and one.values["q_front"] == 1
+    both = with_packet("Signal 3", FIXED, restriction(8, 1000, 500, 40))
+    assert not found("E22", SHORT, all_of(second, third, both))
+    twin = [
+        with_packet(f"Signal {n}", FIXED, restriction(m, 700 + 1500 * (5 - n), 300, 60)) for n, m in ((4, 9), (5, 7))
+    ]
+    (one,) = found("E22", SHORT, all_of(second, third, *twin))
+    assert "is 7, and 9 by Signal 4" in one.sentence
+
+
+def test_e22_of_packets_with_numbers_of_their_own(found: Found) -> None:
+    """A project may number each packet by itself: then nothing is reported, and it is counted."""
+    own = [
+        with_packet(f"Signal {n}", FIXED, restriction(n, 1000, 500, 40), restriction(20 + n, 2500, 500, 40))
+        for n in (2, 3, 4)
+    ]
+    result = found.result("E22", SHORT, all_of(*own))
+    assert not result.found and result.not_looked_at == {e22_temporary_restriction.NUMBERED: 4}
+
+
+def far_away() -> Any:
+    """A restriction with the number 7 at once."""
+    return restriction(7, 500, 500, 40)
 
 
 @pytest.mark.parametrize("distance, length, speed, count", [(0, 1000, 40, 0), (0, 900, 40, 1), (0, 1000, 50, 1)])
@@ -1306,6 +1538,37 @@ def test_e25(found: Found) -> None:
     assert not found("E25", SHORT, all_of(without_overlap, with_packet("Signal 3", GREEN, on_sight(0))))
 
 
+def test_e25_of_limits(found: Found) -> None:
+    """V_LOA may depend on the aspect, at a level border also whether it is 0. Beside it no overlap is compared."""
+
+    def as_far(first: int, second: int, third: int) -> Change:
+        def end(rows: List[Row]) -> None:
+            yellow, green = (change(rows, "Signal 4", aspect, 12) for aspect in (YELLOW, GREEN))
+            other = change(rows, "Signal 3", GREEN, 12)
+            green.update(l_endsection=yellow["l_endsection"])
+            for form, speed in ((yellow, first), (green, second), (other, third)):
+                form.update(end_speed=speed)
+            other["overlap"].update(d_ol=150 if third else 200)
+
+        return end
+
+    order = meaning_line.packet(
+        meaning_line.Site("Signal 5", 5, 16_000, 1, 1),
+        41,
+        d_leveltr=32_767,
+        transitions=[{"m_leveltr": 0, "l_ackleveltr": 0}],
+    )
+    border = with_packet("Signal 5", FIXED, order)
+    assert not found("E25", SHORT, as_far(12, 20, 20))
+    assert len(found("E25", SHORT, as_far(12, 12, 20))) == 1
+    assert len(found("E25", SHORT, as_far(0, 20, 20))) == 1
+    assert not found("E25", SHORT, all_of(as_far(0, 20, 20), border))
+    (left,) = {why for why in found.result("E25", SHORT, as_far(12, 20, 20)).not_looked_at if "V_LOA" in why}
+    assert left == "without its overlap or V_LOA, which depends on the aspect"
+    (left,) = {why for why in found.result("E25", SHORT, as_far(12, 12, 12)).not_looked_at if "V_LOA" in why}
+    assert left == "without its danger point and overlap, which mean nothing with V_LOA above 0"
+
+
 def test_e25_of_overlaps_that_depend_on_the_aspect(found: Found) -> None:
     """If a group has two aspects with other overlaps for one end, a third one is not compared."""
 
@@ -1316,3 +1579,52 @@ def test_e25_of_overlaps_that_depend_on_the_aspect(found: Found) -> None:
 
     short = [as_far, lambda rows: change(rows, "Signal 3", GREEN, 12)["overlap"].update(d_ol=150)]
     assert not found("E25", SHORT, all_of(*short))
+
+
+@pytest.mark.parametrize(
+    ("name", "is_slip"),
+    [
+        ("yelow", True),
+        ("yelllow", True),
+        ("yelolw", True),
+        ("yeliow", True),
+        ("Yelow", True),
+        ("yellows", False),
+        ("fellow", False),
+        ("yellow 40", False),
+        ("blue", False),
+        ("yllw", False),
+    ],
+)
+def test_e32(found: Found, name: str, is_slip: bool) -> None:
+    """One letter inside of a word, which one group has and others do not."""
+    made = found("E32", SHORT, meaning_mistakes.renamed("Signal 3", YELLOW, name))
+    assert [(list(each.rows), list(each.aspects)) for each in made] == ([([12], [name])] if is_slip else [])
+
+
+def test_e32_of_names_that_are_meant(found: Found) -> None:
+    """Two groups with a name, a group with both names, digits, short words, and too few groups."""
+    twice = all_of(*(meaning_mistakes.renamed(group, YELLOW, "yelow") for group in ("Signal 3", "Signal 4")))
+    assert not found("E32", SHORT, twice)
+    assert not found("E32", SHORT, meaning_mistakes.renamed("Signal 3", GREEN, "yelow"))
+    for line, name in ((Line(aspects=(RED, "slow 40", GREEN)), "slow 60"), (Line(aspects=(RED, "Ks2", GREEN)), "Kr2")):
+        assert not found("E32", line, meaning_mistakes.renamed("Signal 3", line.aspects[1], name))
+    few = all_of(meaning_mistakes.renamed("Signal 3", YELLOW, "yelow"), only(lambda row: row.place < 14_400))
+    assert not found("E32", Line(signals=4), few)
+
+
+def test_e32_of_tracks(found: Found) -> None:
+    """A track of one group alone, whose name is one letter away from that of the others."""
+
+    def tracks(name: str, usual: str) -> Change:
+        def name_tracks(rows: List[Row]) -> None:
+            for row in rows:
+                row.track = name if row.group == "Signal 4" else usual
+
+        return name_tracks
+
+    (one,) = found("E32", SHORT, tracks("trak 1", "track 1"))
+    assert one.sentence == 'no other group has the track "trak 1", and 5 groups have "track 1": it looks typed wrongly'
+    assert list(one.rows) == [14, 15, 16, 17] and not one.aspects
+    for name, usual in (("track 2", "track 1"), ("trackA", "trackB"), ("up", "un"), ("", "1")):
+        assert not found("E32", SHORT, tracks(name, usual))

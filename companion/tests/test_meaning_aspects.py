@@ -282,6 +282,27 @@ def test_e9_of_equal_ends(program: Program, tmp_path: Path) -> None:
     assert not found(program, tmp_path / "t.csv", "E9", as_green)
 
 
+def test_e9_of_equal_ends_is_no_case(program: Program, tmp_path: Path) -> None:
+    """The order is that of the signals at which the two end at two places. Many equal ends are not remarked."""
+    equal = [packet_with(signal, GREEN, 12, l_endsection=1500) for signal in (1, 2)]
+    (one,) = found(program, tmp_path / "t.csv", "E9", exchanged(4), *equal)
+    assert one.rows == [row_of(4, YELLOW), row_of(4, GREEN)]
+    assert one.sentence.endswith(
+        'in 3 of 4 cases of the table that of "yellow" ends before that of "green" (in 2 more both end at one place)'
+    )
+    assert not found(program, tmp_path / "t.csv", "E9", *equal)
+    near = packet_with(3, GREEN, 12, l_endsection=1690)
+    assert not found(program, tmp_path / "t.csv", "E9", exchanged(4), *equal, near)
+
+
+def test_e9_of_limits(program: Program, tmp_path: Path) -> None:
+    """If green lets trains pass the end by V_LOA, it leads farther than yellow."""
+    equal = packet_with(3, YELLOW, 12, l_endsection=3000)
+    for first, second, count in ((12, 20, 0), (0, 20, 0), (12, 0, 1)):
+        speeds = [packet_with(3, YELLOW, 12, end_speed=first), packet_with(3, GREEN, 12, end_speed=second)]
+        assert len(found(program, tmp_path / "t.csv", "E9", equal, *speeds)) == count, (first, second)
+
+
 def test_e9_needs_cases(program: Program, tmp_path: Path) -> None:
     """Four of six cases are no order, and nor are two groups."""
     assert not found(program, tmp_path / "t.csv", "E9", exchanged(3), exchanged(4))
@@ -448,12 +469,70 @@ def test_e24_of_two_aspects_of_a_signal(program: Program, run: Run, tmp_path: Pa
     """A second mistake hides none: a group with few packets 12 is compared by the names of its aspects, or counted."""
     both = [without(3, RED, 12, 21, 27), without(3, YELLOW, 12)]
     made = found(program, tmp_path / "t.csv", "E24", *both)
-    assert [one.aspects for one in made] == [[RED], [YELLOW]]
-    assert "it lacks packets 12 (movement authority of level 1), 21" in made[0].sentence
+    assert [one.aspects for one in made] == [[RED, YELLOW]] and made[0].rows == (row_of(3, RED), row_of(3, YELLOW))
+    assert made[0].sentence == (
+        '2 aspects are unlike the aspects of the same names at other signals: "red": it lacks packets 12 (movement '
+        f"authority of level 1), {PROFILES} in nominal direction, which 5 other signals have; "
+        '"yellow": it lacks packet 12 (movement authority of level 1) in nominal direction, which 5 other signals have'
+    )
     (one,) = found(program, tmp_path / "t.csv", "E24", *both, without(3, GREEN, 12), without(4, RED, 12))
     assert one.rows == (row_of(4, RED),)
     why = "aspects of groups without a packet 12 in half of their aspects, for one direction: 3"
     assert f"not compared by E24: 3 of 18 aspects of signals ({why})" in run("check", tmp_path / "t.csv")[1]
+
+
+def test_e24_of_a_border_is_one_remark(program: Program, tmp_path: Path) -> None:
+    """A signal at the border has packets at its stop aspect only. All its other aspects are one remark."""
+    border = [without(6, aspect, 12, 21, 27) for aspect in (YELLOW, GREEN)]
+    (one,) = found(program, tmp_path / "t.csv", "E24", *border)
+    assert one.aspects == [YELLOW, GREEN] and one.rows == (row_of(6, YELLOW), row_of(6, GREEN))
+    assert one.sentence.startswith("2 aspects are unlike the aspects of the same names at other signals: ")
+    assert '"yellow", "green": it lacks packets 12 (movement authority of level 1), 21' in one.sentence
+    assert list(one.values.values()) == [3, 3]
+
+
+def test_e24_counts_what_no_majority_shows(program: Program, run: Run, tmp_path: Path) -> None:
+    """Three of 15 signals are reported, and four are counted, so that no silence hides them."""
+    line, path = Line(signals=15), tmp_path / "t.csv"
+    empty = [without(signal, RED, 12, 21, 27) for signal in (2, 5, 8, 11)]
+    assert len(found(program, path, "E24", *empty[:3], line=line)) == 3
+    assert not found(program, path, "E24", *empty, line=line)
+    why = "aspects that lack a packet which at least half of the signals have, as too many others do: 4"
+    assert f"not compared by E24: 4 of 45 aspects of signals ({why})" in run("check", path)[1]
+    orders = [packets_added(signal, RED, raw(137, "0")) for signal in (1, 2, 3)]
+    assert not found(program, path, "E24", *orders, line=line) and "compared by E24" not in run("check", path)[1]
+
+
+def slow_on_sight(signal: int, main: int, fast: int = 8) -> List[Change]:
+    """Yellow leads over points with 40 km/h, in on sight with V_MAMODE `fast`, and has this V_MAIN."""
+
+    def points(rows: List[Row]) -> None:
+        speeds = change(rows, f"Signal {signal}", YELLOW, 27)["elements"]
+        speeds[1:1] = [{**speeds[0], "d_static": 300, "v_static": 8}]
+        speeds[2]["d_static"] -= 300
+
+    mode = packets_added(signal, YELLOW, raw(80, f"01{0:015b}00{fast:07b}{1500:015b}{0:015b}0{0:05b}"))
+    return [points, packet_with(signal, YELLOW, 12, v_main=main), mode]
+
+
+def test_e24_of_a_slow_route_with_a_mode_profile(program: Program, tmp_path: Path) -> None:
+    """Yellow of one signal leads over points in on sight. Its V_MAIN and V_MAMODE may be those of the points."""
+    path = tmp_path / "t.csv"
+    assert not found(program, path, "E24", *slow_on_sight(3, 8))
+    sight = raw(80, f"01{0:015b}00{10:07b}{1500:015b}{0:015b}0{0:05b}")
+    usual = [
+        each
+        for signal in (1, 2, 4, 5, 6)
+        for each in (packets_added(signal, YELLOW, sight), packet_with(signal, YELLOW, 12, v_main=10))
+    ]
+    assert not found(program, path, "E24", *usual, *slow_on_sight(3, 8, 6))
+    (one,) = found(program, path, "E24", *usual, *slow_on_sight(3, 8, 12))
+    assert "V_MAMODE is 60 km/h, and 50 km/h at all 5 other signals with it" in one.sentence
+    (one,) = found(program, path, "E24", *usual, *slow_on_sight(3, 12))
+    assert "V_MAIN is 60 km/h [12], and 50 km/h [10] at all 5 other signals" in one.sentence
+    straight = packets_added(3, YELLOW, raw(80, f"01{0:015b}00{8:07b}{1500:015b}{0:015b}0{0:05b}"))
+    (one,) = found(program, path, "E24", *usual, straight, packet_with(3, YELLOW, 12, v_main=8))
+    assert "V_MAIN is 40 km/h [8], and 50 km/h [10] at" in one.sentence and "V_MAMODE is 40 km/h" in one.sentence
 
 
 def test_e24_of_an_order_that_most_stop_aspects_lack(program: Program, tmp_path: Path) -> None:
@@ -490,6 +569,16 @@ def test_e24_of_values(program: Program, tmp_path: Path, key: str, value: int, w
     assert not found(program, tmp_path / "t.csv", "E24", own, overlap_of(4, YELLOW, **{key: value}))
 
 
+def test_e24_counts_values_of_several_signals(program: Program, run: Run, tmp_path: Path) -> None:
+    """Two signals with another value are a design as often as mistakes, so that a line counts them."""
+    path = tmp_path / "t.csv"
+    assert not found(program, path, "E24", *(overlap_of(signal, GREEN, t_ol=30) for signal in (3, 4)))
+    why = "aspects with a value of packet 12 or 80 that differs at several signals: 2"
+    assert f"not compared by E24: 2 of 18 aspects of signals ({why})" in run("check", path)[1]
+    assert len(found(program, path, "E24", overlap_of(3, GREEN, t_ol=30))) == 1
+    assert "not compared by E24" not in run("check", path)[1]
+
+
 def test_e24_of_speeds(program: Program, tmp_path: Path) -> None:
     """V_MAIN is the greatest V_STATIC at all other signals, or one speed. A signal may have a speed of its own."""
     (one,) = found(program, tmp_path / "t.csv", "E24", packet_with(3, GREEN, 12, v_main=40))
@@ -504,7 +593,7 @@ def test_e24_of_speeds(program: Program, tmp_path: Path) -> None:
     assert "V_MAIN is 140 km/h [28], and 40 km/h [8] at all 5 other signals" in one.sentence
 
 
-def test_e24_of_stop_and_go(program: Program, tmp_path: Path) -> None:
+def test_e24_of_stop_and_go(program: Program, run: Run, tmp_path: Path) -> None:
     """One signal lets trains pass at danger, or stops them at green. Two signals may do so."""
     path = tmp_path / "t.csv"
 
@@ -517,6 +606,14 @@ def test_e24_of_stop_and_go(program: Program, tmp_path: Path) -> None:
         assert one.sentence.endswith(" at 1 other signal with it") and "V_MAIN is 0 km/h [0]" in one.sentence
         assert one.rows == (row_of(2, RED),)
         assert not found(program, path, "E24", *orders(RED, number, "011"))
+    two = found(program, path, "E24", *orders(GREEN, 137, "1001111111"), line=Line(signals=10))
+    assert [one.aspects for one in two] == [[GREEN], [GREEN]]
+    assert all(one.sentence.endswith("and go if in SR mode at 8 of 9 other signals with it") for one in two)
+    for bits in ("111111", "001100"):
+        assert not found(program, path, "E24", *orders(RED, 137, bits))
+        why = "aspects whose packet 132 or 137 contradicts V_MAIN, as at several signals"
+        count = bits.count("1")
+        assert f"not compared by E24: {count} of 18 aspects of signals ({why}: {count})" in run("check", path)[1]
     (one,) = found(program, path, "E24", *orders(GREEN, 137, "10"))
     assert one.rows == (row_of(2, GREEN),) and "Q_SRSTOP is stop if in SR mode, although V_MAIN is " in one.sentence
     assert not found(program, path, "E24", *orders(GREEN, 132, "10"))

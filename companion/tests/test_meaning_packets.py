@@ -505,7 +505,7 @@ def of_messages(program: Program, path: Path, *forms: Any) -> List[Tuple[int, st
     checked = checking.check(program, reader.read(str(written(program, path, SHORT))), messages_file.read(str(lines)))
     (rule,) = [each for each in meaning.RULES if each.name == "E31"]
     made = rule.find(LineOfTable.of(checked), Options())
-    assert made.looked_at == len(forms)
+    assert made.looked_at + made.skipped == len(forms)
     return [(each.location.message.number if each.location.message else 0, each.sentence) for each in made.found]
 
 
@@ -542,6 +542,39 @@ def test_e31_of_what_is_not_known(program: Program, tmp_path: Path, form: Any) -
     """A group that is not known, a distance that is not known, and a place beyond the table."""
     behind = form["packets"][0]["q_dlrbg"] == 0 and form["packets"][0]["nid_bg"] == 3
     assert len(of_messages(program, tmp_path / "t.csv", form)) == behind
+
+
+@pytest.mark.parametrize(
+    ("values", "why"),
+    [
+        ({"nid_bg": 16_383}, "no group, side or distance"),
+        ({"q_dlrbg": 2}, "no group, side or distance"),
+        ({"d_lrbg": 32_767}, "no group, side or distance"),
+        ({"l_doubtover": 32_767}, "L_DOUBTOVER is not known"),
+        ({"nid_bg": 4}, "of a group without a kilometre or direction"),
+    ],
+)
+def test_e31_counts_what_it_passes_over(program: Program, tmp_path: Path, values: Any, why: str) -> None:
+    form, lines, path = report(3, 1600, 1), tmp_path / "m.txt", tmp_path / "t.csv"
+    form["packets"][0].update(values)
+    (text,) = program.encode([form], radio=True)
+    lines.write_text(f"{getattr(text, 'line')}\n", "utf-8")
+    written(program, path, SHORT)
+    path.write_text(path.read_text("utf-8").replace("14.503", "").replace("14.500", ""), "utf-8")
+    line = LineOfTable.of(checking.check(program, reader.read(str(path)), messages_file.read(str(lines))))
+    (rule,) = [each for each in meaning.RULES if each.name == "E31"]
+    made = rule.find(line, Options())
+    assert not made.found and made.looked_at == 0 and made.not_looked_at == {why: 1}
+
+
+def test_e31_tolerates_rounding(program: Program, tmp_path: Path) -> None:
+    """By the greater unit if Q_SCALE differs. Beyond the next group: L_DOUBTOVER, Q_SCALE, 1 m and 1 m."""
+    both = [report(3, 500, 1), report(3, 5009, 1, q_scale=0)]
+    assert of_messages(program, tmp_path / "t.csv", *both) == []
+    assert len(of_messages(program, tmp_path / "t.csv", both[0], report(3, 5011, 1, q_scale=0))) == 1
+    assert len(of_messages(program, tmp_path / "t.csv", both[0], report(3, 501, 1))) == 1
+    assert of_messages(program, tmp_path / "t.csv", report(3, 1500 + 10 + 1 + 1 + 1, 1)) == []
+    assert len(of_messages(program, tmp_path / "t.csv", report(3, 1500 + 10 + 1 + 1 + 2, 1))) == 1
 
 
 def test_e31_of_a_time_that_is_not_known(program: Program, tmp_path: Path) -> None:

@@ -6,6 +6,7 @@ import csv
 import io
 import json
 import re
+import xml.etree.ElementTree as ElementTree
 from collections import Counter
 from dataclasses import replace
 from decimal import Decimal
@@ -17,6 +18,7 @@ import meaning_line
 import plan_example
 import pytest
 from conftest import Run, without_program
+from legal_lines import KINDS, legal_line
 from meaning_line import SOUND, Line, Row, change, random_line
 from plan_example import Cells, rows_of, text_of
 from test_check_outputs import schema
@@ -29,7 +31,7 @@ from balisekit.rules import checking, telegrams, track_plan
 from balisekit.rules.chainage import Jump
 from balisekit.rules.line import Line as LineOfTable
 from balisekit.rules.rule import Options, Remark, Result
-from balisekit.rules.track_plan import implied as implied_module
+from balisekit.rules.track_plan import implied_profiles
 from balisekit.rules.track_plan.implied import implied
 from balisekit.tables import messages as messages_file, plan, reader
 
@@ -156,6 +158,32 @@ def test_round_trip_of_random_lines(program: Program, tmp_path: Path) -> None:
         assert all(not result.found and not result.skipped for result in found.values()), seed
 
 
+@pytest.mark.uncovered
+@pytest.mark.parametrize("kind", KINDS)
+def test_round_trip_of_legal_lines(program: Program, tmp_path: Path, kind: str) -> None:
+    """So does that of lines whose routes leave the track, and whose groups round by different units."""
+    compared = 0
+    for seed in range(10):
+        path = tmp_path / "t.csv"
+        path.write_text(meaning_line.table(program, legal_line(kind, seed).rows), "utf-8")
+        line = read(program, path)
+        found = results(line, implied_rows(line), tmp_path)
+        assert [each.sentence for result in found.values() for each in result.found] == [], seed
+        compared += sum(result.looked_at for result in found.values())
+    assert compared > 10 * 100
+
+
+def test_a_point_is_where_trains_are_told_another_thing(program: Program, tmp_path: Path) -> None:
+    """Their packet 5 leads to another track. Without one that does, the difference stays a remark."""
+    path = tmp_path / "t.csv"
+    path.write_text(meaning_line.table(program, legal_line("single track", 1).rows), "utf-8")
+    points = [row for row in implied_rows(read(program, path)) if row["kind"] == "point"]
+    assert {(row["km"], row["way"]) for row in points if row["track"] == "1"} >= {("10.150", "rising")}
+    line = read(program, written(program, path, Line(), speeds("Signal 5", v_static=12)))
+    assert not any(row["kind"] == "point" for row in implied_rows(line))
+    assert [each.rule for each in remarks(line, implied_rows(line), tmp_path)] == ["X1"]
+
+
 def test_round_trip_of_borders(sound: Tuple[LineOfTable, List[Cells]], tmp_path: Path) -> None:
     """Packets 42 and 131 are in the plan too."""
     line, rows = sound
@@ -277,6 +305,30 @@ def test_x1(run: Run, program: Program, tmp_path: Path) -> None:
     assert "V_STATIC is 5 km/h from km 20.500 to km 21.260, and the line speed is 100 km/h by row " in out[second]
 
 
+def test_x1_of_short_rows(sound: Tuple[LineOfTable, List[Cells]], tmp_path: Path) -> None:
+    """Many rows of one metre that touch each other are one remark, with both ends and all rows of the plan."""
+    line, rows = sound
+    whole = of_kind(rows, "speed")
+    others = [row for row in rows if row["kind"] != "speed" or row is not whole]
+    begin, end = Decimal(whole["km"]), Decimal(whole["km_to"] or rows[rows.index(whole) + 1]["km"])
+    metre, middle = Decimal("0.001"), begin + Decimal("0.500")
+    short = [
+        {
+            **whole,
+            "km": f"{middle + metre * each}",
+            "km_to": f"{middle + metre * (each + 1)}",
+            "value": f"{30 + each % 2 * 5}",
+        }
+        for each in range(40)
+    ]
+    before, after = {**whole, "km_to": f"{middle}"}, {**whole, "km": f"{middle + 40 * metre}", "km_to": f"{end}"}
+    found = [each for each in remarks(line, [*others, before, *short, after], tmp_path) if each.rule == "X1"]
+    assert len(found) == 1
+    first = len(others) + 3
+    whole_stretch = f"it differs from km {middle} to km {middle + 40 * metre}, by rows {first} to {first + 39} of it"
+    assert found[0].sentence.endswith(f"; with the stretches that touch it, {whole_stretch}"), found[0].sentence
+
+
 def test_x2_of_the_other_way(sound: Tuple[LineOfTable, List[Cells]], tmp_path: Path) -> None:
     """Gradients of a falling line have the opposite sign in a row without a way."""
     line, rows = sound
@@ -328,15 +380,53 @@ def test_x4_of_a_danger_point(program: Program, tmp_path: Path) -> None:
     }
 
 
+TERMS = "danger=50 loa=0 loa_time=none end_time=60 end_start=300 overlap_time=45 overlap_start=100"
+
+
+def with_timers(rows: List[Row]) -> None:
+    """The authority of signal 5 at green has timers, a danger point and an overlap."""
+    authority = change(rows, "Signal 5", "green", 12)
+    authority["end_timer"] = {"t_endtimer": 60, "d_endtimerstartloc": 300}
+    authority["danger_point"] = {"d_dp": 50, "v_releasedp": 4}
+    authority["overlap"]["t_ol"] = 45
+
+
+@pytest.mark.parametrize(
+    "key, value, words",
+    [
+        ("danger", "60", "the danger point is 50 m, and 60 m by"),
+        ("danger", "none", "the danger point is 50 m, and none by"),
+        ("loa", "40", "V_LOA is 0 km/h, and 40 km/h by"),
+        ("loa_time", "90", "T_LOA is none, and 90 s by"),
+        ("end_time", "55", "T_ENDTIMER is 60 s, and 55 s by"),
+        ("end_time", "none", "T_ENDTIMER is 60 s, and none by"),
+        ("end_start", "302", "D_ENDTIMERSTARTLOC is 300 m, and 302 m by"),
+        ("overlap_time", "46", "T_OL is 45 s, and 46 s by"),
+        ("overlap_start", "90", "D_STARTOL is 100 m, and 90 m by"),
+    ],
+)
+def test_x4_of_timers(program: Program, tmp_path: Path, key: str, value: str, words: str) -> None:
+    """The danger point, V_LOA and the timers with their places: one other key is one remark."""
+    line = read(program, written(program, tmp_path / "t.csv", Line(), with_timers))
+    rows = implied_rows(line)
+    row = of_kind(rows, "aspect", name="Signal 5/green")
+    row["value"] = f"{row['value']} {TERMS}"
+    assert not remarks(line, rows, tmp_path)
+    row["value"] = re.sub(rf"\b{key}=\S+", f"{key}={value}", row["value"])
+    (found,) = remarks(line, rows, tmp_path)
+    assert found.rule == "X4" and found.sentence.startswith(words)
+    assert ("plan_" in "".join(found.values)) == (value != "none")
+
+
 def test_x4_of_an_aspect_without_authority(sound: Tuple[LineOfTable, List[Cells]], tmp_path: Path) -> None:
-    """An aspect that the plan has and the telegrams lack is a remark. One that the table lacks is a note."""
+    """An aspect that the plan has and the telegrams lack is a remark of X4. One that the table lacks is one of X7."""
     line, rows = sound
     rows.append({**of_kind(rows, "aspect", name="Signal 5/green"), "name": "Border", "way": "falling"})
     rows.append({**of_kind(rows, "aspect", name="Signal 5/green"), "name": "Signal 5/blue"})
-    result = results(line, rows, tmp_path)["X4"]
-    (found,) = result.found
+    found, other = remarks(line, rows, tmp_path)
     assert found.sentence == f"the aspect has no packet 12 for falling trains, and row {len(rows)} of the plan has one"
-    assert result.notes == [f"{tmp_path / 'plan.csv'}: row {len(rows) + 1}: the table has no such aspect"]
+    words = f'the table has no aspect "Signal 5/blue", which row {len(rows) + 1} of the plan has: did you mean "'
+    assert (found.rule, other.rule) == ("X4", "X7") and other.sentence.startswith(words)
 
 
 @pytest.mark.parametrize(
@@ -564,7 +654,7 @@ def test_infill_and_unknown_directions_are_not_compared(program: Program, tmp_pa
     (note,) = implied(line, Options()).notes
     assert note.endswith(" packets are not in the plan: no kilometre or direction")
     found = results(line, implied_rows(read(program, written(program, tmp_path / "t.csv"))), tmp_path)
-    assert not any(each.found for each in found.values())
+    assert [name for name in found if found[name].found] == ["X8"], "its group has another number of balises"
     assert found["X4"].not_looked_at == {"no kilometre or direction": 3} and found["X3"].skipped == 2
 
 
@@ -597,7 +687,11 @@ def test_what_most_groups_say_is_in_the_plan(program: Program, tmp_path: Path) -
 def test_one_thing_is_named_by_the_singular() -> None:
     """Also if the plural is not the last word."""
     found = [links_text._things(rule, 1) for rule in track_plan.RULES]
-    assert found == ["1 speed", "1 gradient", "1 end of authority", "1 authority of aspects", "1 border"]
+    assert found == ["1 speed", "1 gradient", "1 end of authority", "1 authority of aspects", "1 border"] + [
+        "1 row of the plan",
+        "1 name of the plan",
+        "1 statement about groups",
+    ]
 
 
 def test_a_plan_that_compares_nothing(run: Run, program: Program, tmp_path: Path) -> None:
@@ -609,12 +703,217 @@ def test_a_plan_that_compares_nothing(run: Run, program: Program, tmp_path: Path
         assert (
             status == 2 and out[-1].startswith("INCOMPLETE: ") and "X3 compared none of 30 ends of authority" in out[-1]
         )
-    assert f"note: {file}: row 2: the table has no such track" in out
+    assert (
+        'track plan  track other: X7: the table has no track "other", which row 2 of the plan has' in out
+    ), "a row of another track is an open entry"
     file.write_text("kind,value,name\naspect,end=1500,Signal 5/yellow\n", "utf-8")
     status, out, _ = run("check", path, "--plan", file)
     assert status == 0 and out[-1].endswith(
-        "track plan: none found, 1 compared, 218 not (the plan says nothing: 218)"
+        "track plan: none found, 2 compared, 218 not (the plan says nothing: 218)"
     ), out[-1]
+
+
+def without(group: str, aspect: str = "") -> Change:
+    """The rows of a group, or those of an aspect of it, are gone."""
+
+    def gone(rows: List[Row]) -> None:
+        rows[:] = [row for row in rows if row.group != group or aspect not in ("", row.aspect)]
+
+    return gone
+
+
+def test_x7_of_an_aspect_whose_rows_are_gone(run: Run, program: Program, tmp_path: Path) -> None:
+    """The answer is no yes: the aspect of the plan is an open entry at its signal, and X4 has nothing to compare."""
+    sound, file = written(program, tmp_path / "sound.csv"), tmp_path / "p.csv"
+    assert run("plan", sound, "--csv", file)[0] == 0
+    path = written(program, tmp_path / "t.csv", Line(), without("Signal 5", "green"))
+    status, out, _ = run("check", path, "--plan", file, "--only", "X")
+    (entry,) = (line for line in out if ": X7: " in line)
+    words = 'the table has no aspect "Signal 5/green", which row 52 of the plan has: did you mean "Signal 5/'
+    assert status == 1 and entry.startswith("rows 18 to 20  Signal 5  km 16.000: X7: ") and words in entry
+    assert out[-1].startswith("track plan: 1 found (X7 1), ")
+
+
+def test_x7_of_a_group_whose_rows_are_gone(run: Run, program: Program, tmp_path: Path) -> None:
+    """One entry for its aspects, in each output, which can be accepted by its name until a row of it is another one."""
+    sound, file, signed = written(program, tmp_path / "sound.csv"), tmp_path / "p.csv", tmp_path / "accepted.csv"
+    assert run("plan", sound, "--csv", file)[0] == 0
+    path = written(program, tmp_path / "t.csv", Line(), without("Signal 5"))
+    words = ("check", path, "--plan", file, "--only", "X")
+    outputs = ("--json", tmp_path / "a.json", "--sarif", tmp_path / "a.sarif", "--junit", tmp_path / "a.xml")
+    status, out, _ = run(*words, *outputs, "--propose", signed)
+    sentence = (
+        'the table has no group "Signal 5", which rows 50 to 52 and 87 of the plan have: did you mean "Signal 15"?'
+    )
+    assert status == 1 and f"track plan  Signal 5: X7: {sentence}" in out
+    form = json.loads((tmp_path / "a.json").read_text("utf-8"))
+    schema("kit-check").validate(form)
+    (entry,) = (each for each in form["entries"] if each["rule"] == "X7")
+    assert (entry["group"], entry["rows"], entry["values"]) == (None, [], {"plan_name": "Signal 5"})
+    sarif = json.loads((tmp_path / "a.sarif").read_text("utf-8"))
+    schema("kit-sarif").validate(sarif)
+    assert [each["ruleId"] for each in sarif["runs"][0]["results"]].count("X7") == 1
+    cases = ElementTree.parse(tmp_path / "a.xml").iter("testcase")
+    (case,) = (each for each in cases if each.get("classname") == "plan")
+    assert case.get("name") == "Signal 5" and sentence in str(case[0].get("message"))
+    rows = list(csv.DictReader(io.StringIO(signed.read_text("utf-8"))))
+    assert [(row["rule"], row["nid_bg"], row["aspect"]) for row in rows] == [("X7", "", "Signal 5")]
+    rows[0].update(reason="the signal is in another file", who="me", date="2026-01-02")
+    signed.write_text(text_of(rows), "utf-8")
+    assert run(*words, "--accepted", signed)[0] == 0
+    file.write_text(file.read_text("utf-8").replace("Signal 5/yellow", "Signal 5/white"), "utf-8")
+    status, out, _ = run(*words, "--accepted", signed)
+    assert status == 1 and any("the telegrams or values have changed" in line for line in out)
+
+
+@pytest.mark.parametrize("name", ["Sig 3/yellow", "signal 3/yellow", "Signal 3/yelow", "Signal 33/yellow", "Signal 3"])
+def test_x7_names_the_name_that_is_alike(sound: Tuple[LineOfTable, List[Cells]], tmp_path: Path, name: str) -> None:
+    """Names are texts: another case, number or abbreviation is another name."""
+    line, rows = sound
+    renamed = [{**row, "name": name} if row["name"] == "Signal 3/yellow" else row for row in rows]
+    (found,) = remarks(line, renamed, tmp_path)
+    kind, own = ("aspect", name) if name.startswith("Signal 3") and name[8:9] != "3" else ("group", name.split("/")[0])
+    assert found.sentence.startswith(f'the table has no {kind} "{own}", which row ')
+    meant = "Signal 3/red" if name == "Signal 3" else "Signal 3/yellow" if kind == "aspect" else "Signal 3"
+    assert found.sentence.endswith(f' of the plan has: did you mean "{meant}"?')
+
+
+def farther(metres: int, kind: str, rows: List[Cells]) -> List[Cells]:
+    """The plan with a signal more, so far beyond signal 5, or with a speed or gradient after the last one."""
+    last = [row for row in rows if row["kind"] == kind][-1]
+    km = shifted("16.000" if kind == "signal" else last["km_to"], metres)
+    end = "" if kind == "signal" else shifted(km, 500)
+    return [*rows, {**last, "km": km, "km_to": end, "name": ""}]
+
+
+@pytest.mark.parametrize("metres, is_named", [(40, True), (700, True), (30_000, False), (-5_990, False)])
+def test_x6_of_a_signal(program: Program, tmp_path: Path, metres: int, is_named: bool) -> None:
+    """Within the table it is reported at the nearest group. At the first one and beyond the last one it is counted."""
+    line = read(program, written(program, tmp_path / "t.csv"))
+    found = results(line, farther(metres, "signal", implied_rows(line)), tmp_path)
+    assert [len(found[name].found) for name in found] == [0, 0, 0, 0, 0, is_named, 0, 0]
+    assert found["X6"].not_looked_at == ({} if is_named else {"beyond the table": 1})
+    for each in found["X6"].found:
+        assert each.sentence.startswith(f"no authority ends at the signal of row {len(implied_rows(line)) + 2} of the ")
+        assert each.location.group and each.location.group.group.name == "Signal 5"
+
+
+@pytest.mark.parametrize("kind", ["speed", "gradient"])
+def test_x6_of_stretches(program: Program, tmp_path: Path, kind: str) -> None:
+    """Those for trains that get no telegram are one remark, and those beyond the last authority are counted."""
+    line = read(program, written(program, tmp_path / "t.csv"))
+    rows = implied_rows(line)
+    result = results(line, farther(0, kind, rows), tmp_path)["X6"]
+    assert not result.found and result.not_looked_at == {"beyond the table": 1}
+    own = [row for row in rows if row["kind"] == kind]
+    (found,) = remarks(line, [*rows, *({**row, "way": "falling"} for row in own)], tmp_path)
+    number, packet = len(rows) + 2, {"speed": 27, "gradient": 21}[kind]
+    last = number - 1 + sum(1 for row in own if Decimal(row["km"]) < Decimal("30.950"))
+    words = f"no packet {packet} states the {kind}s of rows {number} to {last} of the plan, from km 10.000 to km "
+    assert found.rule == "X6" and found.sentence.startswith(words) and "for falling trains" in found.sentence
+    both = [{**row, "way": ""} if row["kind"] == "speed" else row for row in rows]
+    assert not remarks(line, both, tmp_path)
+
+
+def test_x6_of_another_level(program: Program, tmp_path: Path) -> None:
+    """Beyond a border to level 2 trains get their authorities by radio, and beyond one to level 1 by balises."""
+    line = read(program, written(program, tmp_path / "t.csv"))
+    rows = farther(700, "signal", implied_rows(line))
+    border = {**dict.fromkeys(plan.COLUMNS, ""), "kind": "level", "km": "14.000", "way": "rising"}
+    for level, reasons in (("2", {"another level by the plan": 1}), ("1", {}), ("2 1", {})):
+        result = results(line, [*rows, {**border, "value": level}], tmp_path)["X6"]
+        assert (len(result.found), result.not_looked_at) == (int(not reasons), reasons)
+
+
+def test_x6_of_telegrams_whose_places_are_not_known(program: Program, tmp_path: Path) -> None:
+    """They might state the row: it is counted with the reason, and is no remark."""
+
+    def without_links(rows: List[Row]) -> None:
+        for row in rows:
+            row.form["packets"] = [each for each in row.form["packets"] if each["nid_packet"] != 5]
+
+    point = {**dict.fromkeys(plan.COLUMNS, ""), "kind": "point", "km": "16.200", "way": "rising"}
+    line = read(program, written(program, tmp_path / "t.csv", Line(), without_links))
+    rows = farther(700, "signal", implied_rows(line))
+    assert results(line, [*rows, point], tmp_path)["X6"].not_looked_at["behind a point of the plan"] > 0
+    path = written(program, tmp_path / "t.csv")
+    text = path.read_text("utf-8").splitlines()
+    path.write_text("\n".join([*text[:-1], ",".join([*text[-1].split(",")[:-1], "0" * 50])]), "utf-8")
+    result = results(read(program, path), rows, tmp_path)["X6"]
+    assert not result.found and result.not_looked_at["a refused telegram on the track"] > 0
+
+
+def group_cells(rows: List[Cells], name: str, **cells: str) -> List[Cells]:
+    """The plan with other cells in the row of a group."""
+    return [{**row, **cells} if (row["kind"], row["name"]) == ("group", name) else row for row in rows]
+
+
+@pytest.mark.parametrize(
+    "cells, said",
+    [
+        ({"value": "id=352/99"}, "NID_C and NID_BG are 352/5, and 352/99 by"),
+        ({"value": "id=351/5"}, "NID_C and NID_BG are 352/5, and 351/5 by"),
+        ({"value": "id=352/5 balises=3"}, "N_TOTAL is 1 (2 balises), and 2 by"),
+        ({"value": "id=352/5 linked=no"}, "Q_LINK is 1, and 0 by"),
+        ({"value": "id=352/5 at=16.000,16.006"}, "a balise is at km 16.003, and at km 16.006 by"),
+        ({"km": "16.004"}, "the first balise is at km 16.000, and at km 16.004 by"),
+        ({"way": "falling"}, "the kilometres are rising in nominal direction, and falling by"),
+        ({"track": "2"}, 'the track is "", and "2" by'),
+    ],
+)
+def test_x8_of_another_cell(sound: Tuple[LineOfTable, List[Cells]], tmp_path: Path, cells: Cells, said: str) -> None:
+    """Each cell and key of a group's row is compared with its telegrams, and says what differs."""
+    line, rows = sound
+    found = remarks(line, group_cells(rows, "Signal 5", **cells), tmp_path)
+    (first,) = (each for each in found if said in each.sentence)
+    assert {each.rule for each in found} == {"X8"} and first.location.group
+    assert first.location.group.group.name == "Signal 5" and first.sentence.endswith(" of the plan")
+    assert not remarks(line, group_cells(rows, "Signal 5", value="id=352/5"), tmp_path)
+
+
+def link_of(rows: List[Row], sender: str, **fields: int) -> None:
+    """The first link of a group has other values."""
+    change(rows, sender, "*", 5)["links"][0].update(fields)
+
+
+@pytest.mark.parametrize(
+    "fields, said",
+    [
+        ({"d_link": 1470}, "Signal 6: D_LINK adds up to 1470 m, and to 1500 m by the rows"),
+        ({"q_linkorientation": 0}, "Signal 6: Q_LINKORIENTATION is 0, and 1 by rows "),
+        ({"nid_bg": 7}, "Signal 7: D_LINK adds up to 1500 m, and to 3000 m by rows "),
+    ],
+)
+def test_x8_of_links(program: Program, tmp_path: Path, fields: Dict[str, int], said: str) -> None:
+    """A packet 5 is compared with where the plan has both groups, and not with the table."""
+    rows = implied_rows(read(program, written(program, tmp_path / "t.csv")))
+    path = written(program, tmp_path / "t.csv", Line(), lambda own: link_of(own, "Signal 5", **fields))
+    found = remarks(read(program, path), rows, tmp_path)
+    assert [each.rule for each in found if said.replace(" the rows", " rows") in each.sentence] == ["X8"], found
+    assert {each.rule for each in found} == {"X8"} and found[0].location.number == 5
+
+
+def test_x8_counts_what_it_does_not_compare(sound: Tuple[LineOfTable, List[Cells]], tmp_path: Path) -> None:
+    """Groups without a row, and links of groups without a way, are counted. Of a plan without groups nothing is."""
+    line, rows = sound
+    result = results(line, [row for row in rows if row["kind"] != "group"], tmp_path)["X8"]
+    assert (result.looked_at, result.not_looked_at, result.is_empty) == (0, {}, False)
+    others = [row for row in rows if (row["kind"], row["name"]) != ("group", "Signal 5")]
+    lacks = results(line, others, tmp_path)["X8"].not_looked_at["the plan says nothing"]
+    assert lacks > results(line, rows, tmp_path)["X8"].not_looked_at.get("the plan says nothing", 0)
+    result = results(line, group_cells(rows, "Signal 5", way=""), tmp_path)["X8"]
+    assert not result.found and result.not_looked_at["no way of the group in the plan"] > 0
+
+
+def test_x8_of_jumps(program: Program, tmp_path: Path) -> None:
+    """A distance across a jump is by places, and not by kilometres."""
+    path = written(program, tmp_path / "t.csv")
+    jumped(path)
+    jumps = (Jump(Decimal("20.000"), Decimal("25.000")),)
+    line = read(program, path, jumps)
+    rows, options = implied_rows(line, Options(jumps=jumps)), Options(jumps=jumps)
+    assert not remarks(line, rows, tmp_path, options)
+    assert {each.rule for each in remarks(line, [row for row in rows if row["kind"] != "jump"], tmp_path)} >= {"X8"}
 
 
 def test_options(run: Run, program: Program, tmp_path: Path) -> None:
@@ -630,7 +929,7 @@ def test_options(run: Run, program: Program, tmp_path: Path) -> None:
     assert run("check", path, "--plan", file, "--json", file, "--force")[0] == 2
     (tmp_path / "balisekit.toml").write_text('[check]\nplan = "p.csv"\n', "utf-8")
     status, out, _ = run("check", path)
-    assert status == 0 and out[-1] == 'program: "yes: groups 15, messages 0"; track plan: none found, 219 compared'
+    assert status == 0 and out[-1] == 'program: "yes: groups 15, messages 0"; track plan: none found, 405 compared'
 
 
 def test_without_kilometres(run: Run, program: Program, tmp_path: Path) -> None:
@@ -649,7 +948,7 @@ def test_without_kilometres(run: Run, program: Program, tmp_path: Path) -> None:
     assert status == 2 and "X5 compared none of 2 borders (no kilometre or direction: 2)" in out[-1]
     file.write_text("kind,value,name\naspect,end=1500,Signal 5/yellow\n", "utf-8")
     status, out, _ = run("check", path, "--plan", file)
-    assert status == 0 and "track plan: none found, 1 compared" in out[-1]
+    assert status == 0 and "track plan: none found, 2 compared" in out[-1]
 
 
 def test_refused_telegrams(run: Run) -> None:
@@ -673,7 +972,7 @@ def test_outputs(run: Run, program: Program, tmp_path: Path) -> None:
     assert entry["values"] == {"v_static_kmh": "100", "plan_kmh": "80", "km": "17.990", "km_to": "20.700"}
     assert form["rules"]["X5"]["looked_at"] == 3
     head, *rows = signed.read_text("utf-8").splitlines()
-    assert [row.split(",")[0] for row in rows] == ["X5", "X3", "X2", "X1", "X4"]
+    assert [row.split(",")[0] for row in rows] == ["X6", "X5", "X3", "X2", "X1", "X4", "X7", "X8"]
     entries = list(csv.DictReader(io.StringIO("\n".join([head, *rows]))))
     for each in entries:
         each.update(reason="as the signalling plan has it", who="me", date="2026-01-02")
@@ -690,7 +989,7 @@ def test_example() -> None:
     assert plan_example.plan() == (TOP / plan_example.PLAN).read_text("utf-8")
     answer = plan_example.run("check", plan_example.TABLE, "--plan", plan_example.PLAN)
     assert without_program(answer) == without_program((TOP / plan_example.ANSWER).read_text("utf-8"))
-    assert [answer.count(f": {rule.name}: ") for rule in track_plan.RULES] == [1] * 5
+    assert [answer.count(f": {rule.name}: ") for rule in track_plan.RULES] == [1] * 8
 
 
 def test_report(run: Run, tmp_path: Path) -> None:
@@ -699,7 +998,7 @@ def test_report(run: Run, tmp_path: Path) -> None:
     words = ("report", TOP / plan_example.TABLE, "--html", tmp_path / "a.html")
     assert run(*words, "--plan", TOP / plan_example.PLAN)[0] == 1
     page = (tmp_path / "a.html").read_text("utf-8")
-    assert "V_MAIN is 140 km/h, and 100 km/h by row 63 of the plan" in page
+    assert "V_MAIN is 140 km/h, and 100 km/h by row 64 of the plan" in page
     assert "compared: 67 speeds (X1), 77 gradients (X2), 30 ends of authority (X3), " in page
     assert run(*words, "--force")[0] == 0 and "Track plan, by" not in (tmp_path / "a.html").read_text("utf-8")
 
@@ -737,7 +1036,7 @@ def test_the_plan_of_a_project_has_jumps(run: Run, program: Program, tmp_path: P
 def test_notes_of_a_plan_have_the_order_of_the_table(program: Program, monkeypatch: pytest.MonkeyPatch) -> None:
     """Here each element has a reason of its own. No order depends on the run."""
     numbers = count()
-    monkeypatch.setattr(implied_module, "span", lambda saying, element: (None, f"reason {next(numbers):04}"))
+    monkeypatch.setattr(implied_profiles, "span", lambda saying, element: (None, f"reason {next(numbers):04}"))
     table = reader.read(str(TOP / "examples" / "meaning" / "line.csv"))
     notes = implied(LineOfTable.of(checking.check(program, table)), Options()).notes
     reasons = [note for note in notes if "reason" in note]

@@ -10,7 +10,7 @@ from cases_of_program import TOP
 
 from balisekit.engine.records import FROM_TRACK
 from balisekit.etcs.packets import MESSAGES, packet_name
-from balisekit.etcs.variables import LABELS, NO_FORM, VARIABLES, Around, metres, value_texts, value_words, variable_name
+from balisekit.etcs.variables import NO_FORM, VARIABLES, Around, labels, metres, value_texts, value_words, variable_name
 
 pytestmark = pytest.mark.uncovered
 SCHEMAS = [json.loads((TOP / "schemas" / f"{name}.json").read_text()) for name in ("telegram", "message")]
@@ -42,7 +42,7 @@ KEYS = sorted({key for whole in SCHEMAS for key, schema in _properties(whole) if
 def test_each_key_has_a_row() -> None:
     """No key of the schemas is without a name, and no row without a key."""
     assert set(KEYS) - {"body"} == set(VARIABLES)
-    assert {*LABELS, *VARIABLES} >= {key for whole in SCHEMAS for key, _ in _properties(whole)}
+    assert {*labels(), *VARIABLES} >= {key for whole in SCHEMAS for key, _ in _properties(whole)}
 
 
 def _numbers(schema: Any, whole: Any) -> Iterator[int]:

@@ -93,8 +93,19 @@ def test_each_changed_cell_is_the_one_difference(sheet: Path, run: Run) -> None:
     ):
         status, out, _ = run("table", LINE, "--expect", changed(sheet, number, column, cell))
         said = [line for line in out if line.startswith("row ")]
-        assert status == 1 and said == [f'row {number}, column {column}: expected "{cell}", found {found}: {at}']
+        assert status == 1 and said == [
+            f'row {number} of the sheet, column {column}: expected "{cell}", found {found}: {at}'
+        ]
         assert out[-1].startswith("differences 1; compared: ")
+
+
+def test_one_row_that_is_compared(tmp_path: Path, run: Run) -> None:
+    """It is one row, and it is named as a row of the sheet: the same line names a row of the table."""
+    path = tmp_path / "one.csv"
+    path.write_text("group,balise,variable,value\nA,1,NID_BG,9\n", "utf-8")
+    status, out, _ = run("table", LINE, "--expect", path)
+    assert status == 1 and f"; compared: 1 row of {path}; not in the sheet: " in out[-1]
+    assert [line.partition(":")[0] for line in out if "found" in line] == ["row 2 of the sheet, column value"]
 
 
 def test_rows_that_the_table_does_not_have(sheet: Path, run: Run) -> None:
@@ -105,7 +116,7 @@ def test_rows_that_the_table_does_not_have(sheet: Path, run: Run) -> None:
         ("variable", "D_LINC", "row 2 of the table has no packet 5, element link 0, variable D_LINC"),
     ):
         status, out, _ = run("table", LINE, "--expect", changed(sheet, number, column, cell))
-        assert status == 1 and f"row {number}: {what}" in out
+        assert status == 1 and f"row {number} of the sheet: {what}" in out
         assert out[-1].startswith("differences 1; ") and "; not in the sheet: 1 of " in out[-1]
 
 
@@ -129,7 +140,10 @@ def test_spellings_of_a_sheet(table: Write, run: Run, encoding: str, separator: 
     path = table(content=text.encode(encoding), name="s.csv")
     status, out, _ = run("table", LINE, "--expect", path)
     said = [line for line in out if line.startswith("row ")]
-    assert status == 1 and [line.split(":")[0] for line in said] == ["row 3, column km", "row 4, column value"]
+    assert status == 1 and [line.split(":")[0] for line in said] == [
+        "row 3 of the sheet, column km",
+        "row 4 of the sheet, column value",
+    ]
     assert out[-1].startswith(f"differences 2; compared: 2 rows of {path}")
 
 
@@ -228,7 +242,7 @@ class TestWorkbooks:
         book.save(path)
         status, out, _ = run("table", LINE, "--expect", path)
         assert status == 1 and out[-2].startswith(
-            f'row {cell.row}, column value: expected "1010", found "1000" m: row 2'
+            f'row {cell.row} of the sheet, column value: expected "1010", found "1000" m: row 2'
         )
 
     def test_a_date_cannot_be_compared(self, run: Run, tmp_path: Path) -> None:

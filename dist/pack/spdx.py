@@ -63,7 +63,7 @@ def product(name, version, about, word=""):
     """The program, a file of the library for C, or balisekit. ABOUT has the checksum of a file by this word."""
     sums = {"checksums": [{"algorithm": "SHA256", "checksumValue": about[word]}]} if word else {}
     return package(name, [f"generic/{name.replace('_', '-')}@{version}"], versionInfo=version, licenseDeclared=LICENCE, **OWN, **sums,
-                   primaryPackagePurpose="LIBRARY" if is_library(name) else "APPLICATION",
+                   primaryPackagePurpose="LIBRARY" if is_library(name) and not name.endswith(".html") else "APPLICATION",
                    sourceInfo=f"commit {about['commit']}, SHA-256 of the sources {about['sources']}, {about['kit']}")
 
 

@@ -2,8 +2,8 @@
 """Writes the archives of a release for other systems into TO:   targets.py TREE BUILT TO MARK
 
 TREE is the folder of the release, whose ABOUT lists the files, and BUILT has them (out/targets). Each archive also has
-the licences, ABOUT, its page, and the header of its library. SOURCE_DATE_EPOCH is the time of all files. MARK is empty
-or -untested.
+the licences, ABOUT, its page, and the header of its library. The page for browsers is in no archive. SOURCE_DATE_EPOCH
+is the time of all files. MARK is empty or -untested.
 """
 import gzip
 import io
@@ -16,6 +16,7 @@ import zipfile
 from pathlib import Path
 
 TIME = int(os.environ.get("SOURCE_DATE_EPOCH", "0"))
+BROWSER = "browser/balisecheck.html"
 PAPERS = "LICENSE-APACHE", "LICENSE-MIT", "THIRD-PARTY.md", "dist/x86_64-linux/ABOUT"
 HEADER, MANUAL, PAGE = "crates/balisecheck_c/include/balisecheck.h", "balisecheck.1", "docs/other-systems.md"
 # For each system: its page, what else goes beside its files, and its archive, in which npm wants the folder `package`.
@@ -64,6 +65,8 @@ def main(tree, built, to, mark):
         folder = "package" if path.suffix == ".tgz" else path.name.removesuffix(".zip").removesuffix(".tar.gz")
         files = contents(tree, built, system, page, others)
         path.write_bytes((zipped if path.suffix == ".zip" else tarred)(folder, files))
+    if BROWSER in about:
+        Path(to, f"balisecheck-{about['version']}{mark}.html").write_bytes((built / BROWSER).read_bytes())
 
 
 if __name__ == "__main__":

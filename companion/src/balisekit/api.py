@@ -22,9 +22,10 @@ from balisekit.rules.added import AddedRule
 from balisekit.rules.discovery import letter_of
 from balisekit.rules.entries import Entry
 from balisekit.rules.families import Outcome
-from balisekit.tables import messages as messages_file, reader
+from balisekit.tables import messages as messages_file, own_headings, reader
 from balisekit.tables.decimals import own_context
 from balisekit.tables.model import Messages, Table
+from balisekit.tables.names import clean
 
 Path = Union[str, "os.PathLike[str]"]
 Number = Union[int, float, Decimal, str]
@@ -211,8 +212,7 @@ def check(
     """
     stated.look_at_switches(by_position=by_position, everything=everything)
     found = _table_from_here(table) if isinstance(table, Table) else read_table(table, None, by_position, columns)
-    own_settings = found.columns if columns is None else stated.path(columns)
-    options = _as_read(found, own_settings)
+    options = _as_read(found, _own_settings(found, columns))
     given = {"plan": plan, "jumps": jumps, "tolerance": tolerance, "line_speed": line_speed}
     given.update(release_speed=release_speed, rules=_names_of(rules))
     vars(options).update({name: None if value is None else _read(name, value) for name, value in given.items()})
@@ -222,6 +222,16 @@ def check(
     options.by_position, options.all = by_position or found.reading.by_position, everything
     inputs_given = _program(program), found, None if messages is None else _messages(messages)
     return Result(commands.outcome(options, commands.stated(options), inputs=inputs_given))
+
+
+def _own_settings(table: Table, columns: Optional[Path]) -> Optional[str]:
+    """The file of settings for a table: that with which it was read, or another one with the same headings."""
+    if columns is None:
+        return table.columns
+    own = stated.path(columns)
+    if own != table.columns:
+        _look_at_headings(table, own)
+    return own
 
 
 @own_context()
@@ -237,6 +247,15 @@ def _as_read(table: Table, columns: Optional[str]) -> argparse.Namespace:
     """The options of the command that reads a table as it was read."""
     reading = {**table.reading._asdict(), "skip_column": list(table.reading.skip_column)}
     return argparse.Namespace(table=table.path, columns=columns, **reading)
+
+
+def _look_at_headings(table: Table, columns: Optional[str]) -> None:
+    """Raises TableError if a file of settings states other headings than those with which a table was read."""
+    read, named = (own_headings.found(table.path, file) for file in (table.columns, columns))
+    of_read, of_named = (file.tables.get(own_headings.COLUMNS_TABLE, {}) for file in (read, named))
+    if any(of_read.get(name, name) != heading for name, heading in of_named.items()):
+        why = f"{clean(named.path)} states other headings than {clean(read.path) or 'the usual ones'}"
+        raise TableError(f"{why}, with which the table was read: give this file to read_table too, as columns")
 
 
 def _table_from_here(table: Table) -> Table:

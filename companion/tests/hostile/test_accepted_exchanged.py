@@ -29,6 +29,7 @@ from balisekit.rules.accepted import (
     checksum,
     identities,
     keys,
+    never_correct,
     under_stars,
 )
 from balisekit.rules.families import Outcome, apply
@@ -130,7 +131,9 @@ def signed(outcome: Outcome, stars: Collection[str] = ()) -> Tuple[Entries, Dict
         sha256 = checksum([item for _, item in some], starred=[under_stars(wide, own) for own, _ in some])
         made.append(Acceptance(row, wide, "looked at", "J. Doe", date(2026, 1, 1), None, sha256))
     known = enumerate(by_entry.values(), 2)
-    return Entries("a.csv", "", tuple(made)), {row: {(own, said(item)) for own, item in some} for row, some in known}
+    return Entries("a.csv", "", tuple(made), never_correct()), {
+        row: {(own, said(item)) for own, item in some} for row, some in known
+    }
 
 
 def accepted_wrongly(
@@ -174,12 +177,12 @@ def test_no_entry_outlives_an_exchange(program: Program, tmp_path: Path, table: 
 
 @pytest.mark.slow
 @pytest.mark.parametrize("stars", STARS.values(), ids=STARS)
-@pytest.mark.parametrize("name", ["line", "E2", "E13"])
+@pytest.mark.parametrize("name", ["table/line", "links/group-passed-over", "mistakes/E2", "mistakes/E13"])
 def test_no_entry_with_a_star_outlives_an_exchange(
     program: Program, tmp_path: Path, name: str, stars: List[str]
 ) -> None:
     """What is exchanged between two aspects, balises or groups under a `*` is looked at again."""
-    text = next(path for path in TABLES if path.stem == name and path.parent.name != "links").read_text("utf-8")
+    text = next(path for path in TABLES if f"{path.parent.name}/{path.stem}" == name).read_text("utf-8")
     options = Options(asked=frozenset({ALL}), line_speed=100)
     assert not accepted_wrongly(program, tmp_path / "t.csv", text, options, True, stars)
 

@@ -187,7 +187,7 @@ def test_cells_of_the_plan(run: Run, tmp_path: Path) -> None:
         for each in answer(run, line, *words)["entries"]
         for number in re.findall(r"row (\d+) of the plan", each["sentence"])
     }
-    assert len(named) == 5
+    assert len(named) == 8
     for number in range(2, len(rows) + 2):
         renamed = [{**row, "name": f"{row['name']} anew"} if at == number else row for at, row in enumerate(rows, 2)]
         if rows[number - 2]["kind"] in ("aspect", "note"):

@@ -105,13 +105,14 @@ def test_a_forgotten_tolerance_is_seen(line: Path, capsys: pytest.CaptureFixture
 
 
 def test_a_file_that_changes_nothing_is_named(line: Path, capsys: pytest.CaptureFixture[str]) -> None:
-    """Also if an option of the command line replaces its only value, which then is the command line's."""
+    """If an option of the command line replaces its only value, that is named as well."""
     toml = Path("balisekit.toml")
     toml.write_text("[check]\nrelease_speed = 40\n", "utf-8")
     wanted = f"balisekit.toml (SHA-256 {sum_of(toml)}): all have their defaults"
     assert f"settings: {wanted}" in said(capsys, "check", "t.csv")[1]
     toml.write_text("[check]\ntolerance = 3\n", "utf-8")
-    wanted = f"--only F,L, --tolerance 0; balisekit.toml (SHA-256 {sum_of(toml)}): all have their defaults"
+    replaced = "check.tolerance = 3 (not used: --tolerance replaces it)"
+    wanted = f"--only F,L, --tolerance 0; balisekit.toml (SHA-256 {sum_of(toml)}): {replaced}"
     assert f"settings: {wanted}" in said(capsys, "check", "t.csv", "--tolerance", "0", "--only", "F,L")[1]
 
 

@@ -13,14 +13,17 @@ from balisekit.tables import plan
 
 Write = Callable[..., Path]
 HEADING = "kind,km,km_to,track,way,value,name"
-KINDS = "the kinds are speed, gradient, signal, aspect, level, rbc, jump, point"
+KINDS = "the kinds are speed, gradient, signal, aspect, level, rbc, group, jump, point"
 COLUMNS = "kind, km, km_to, track, way, value, name"
 SPEED = "is no speed: write km/h in steps of 5, at most 600"
 GRADIENT = "is no gradient: write whole per mille with sign, such as -5"
 LEVELS = "is no list of levels: write 0, 1, 2, 3 or NTC:7, in the order of priority"
 OVERLAPS = "column km: it overlaps row 2, which holds from km"
 LENGTH = "is no length: write metres, such as 1400 or 1400.5"
-ASPECT = "is none of v=.., end=.., overlap=.. and release=.."
+ASPECT = (
+    "is none of v=.., end=.., overlap=.., release=.., danger=.., loa=.., loa_time=.., end_time=.., end_start=.., "
+    "overlap_time=.., overlap_start=.."
+)
 
 ROWS: Dict[str, str] = {
     "train,12,,,,,": f"row 2, column kind: train is no kind: {KINDS}",
@@ -63,6 +66,22 @@ ROWS: Dict[str, str] = {
     "aspect,,,,,end=none,A/red": f"row 2, column value: end: none {LENGTH}",
     "aspect,,,,,overlap=-1,A/red": f"row 2, column value: overlap: -1 {LENGTH}",
     "aspect,,,,,release=21,A/red": f"row 2, column value: release: 21 {SPEED}",
+    "group,12,,,,id=352/17,": "row 2, column name: a group needs its name in the table",
+    "group,,,,,id=352/17,A": "row 2, column km: empty: a group needs a kilometre",
+    "group,12,,,,,A": "row 2, column value: empty: a group needs a value such as id=352/17 balises=2 linked=yes",
+    "group,12,,,,nid=17,A": "row 2, column value: nid=17 is none of id=.., balises=.., linked=.. and at=..",
+    "group,12,,,,id=352,A": "row 2, column value: id: 352 is no identity: write NID_C/NID_BG, such as 352/17",
+    "group,12,,,,id=352/16383,A": "row 2, column value: id: 352/16383 is no identity: write NID_C/NID_BG, such as "
+    "352/17",
+    "group,12,,,,id=1/2 id=1/3,A": "row 2, column value: id is given twice",
+    "group,12,,,,balises=9,A": "row 2, column value: balises: 9 is no number from 1 to 8",
+    "group,12,,,,linked=1,A": "row 2, column value: linked: 1 is neither yes nor no",
+    "group,12,,,,at=12+300,A": "row 2, column value: at: 12+300 is no list of kilometres: write 12.300,12.303",
+    'group,12,,,,"balises=2 at=12.3,12.4,12.5",A': "row 2, column value: at: 3 kilometres for 2 balises",
+    "group,12,,,,linked=no,A\ngroup,13,,,,linked=no,A": "row 3, column name: the group A is in row 2 already",
+    "aspect,,,,,loa_time=1023,A/red": "row 2, column value: loa_time: 1023 is no time: write "
+    "seconds, at most 1022, or none",
+    "aspect,,,,,danger=50m,A/red": f"row 2, column value: danger: 50m {LENGTH}",
     "level,12,,,,,": f"row 2, column value: nothing {LEVELS}",
     "level,12,,,,4,": f"row 2, column value: 4 {LEVELS}",
     "level,12,,,,NTC,": f"row 2, column value: NTC {LEVELS}",

@@ -60,6 +60,28 @@ def test_tracks_that_differ_in_case_or_blanks(run: Run, table: Write, one: str, 
 
 
 @pytest.mark.parametrize(
+    "one, other, words",
+    [
+        ("Track 1", "Track-1", "punctuation or blanks"),
+        ("Track 1", "track_1", "punctuation or blanks"),
+        ("Track 1", "Track1", "punctuation or blanks"),
+        ("Up.Main", "Up/Main", "punctuation or blanks"),
+        ("Track 01", "Track-1", "punctuation, blanks or how a number is written"),
+        ("1-2", "12", ""),
+        ("1.2", "1-2", ""),
+        ("Up+", "Up-", ""),
+        ("-", "?", ""),
+        ("1", "-1", ""),
+        ("Track A", "Track-B", ""),
+    ],
+)
+def test_tracks_that_differ_in_punctuation(run: Run, table: Write, one: str, other: str, words: str) -> None:
+    """Between two digits, and at an end of the name, a sign may be what makes two tracks of it."""
+    out = run("check", table("group;track;telegram", f"A;{one};{ALONE}", f"B;{other};{OTHER}"))[1]
+    assert looks(out) == ([f'look: tracks "{one}" and "{other}" differ only in {words}'] if words else [])
+
+
+@pytest.mark.parametrize(
     "one, other, is_named",
     [
         ("1", "01", 1),

@@ -1,13 +1,16 @@
 """Files of settings whose values have a wrong type, or are beyond what makes sense: refused with key and file."""
 from __future__ import annotations
 
+import json
 import os
 from hashlib import sha256
 from pathlib import Path
+from typing import Callable, List
 
 import pytest
 from cases_of_program import TOP
 from conftest import Run
+from telegrams import ALONE
 
 from balisekit.cli.settings import NAMES
 
@@ -81,3 +84,21 @@ def test_what_is_no_file(kind: str, why: str, run: Run, tmp_path: Path) -> None:
     else:
         place.mkdir()
     assert run("check", path) == (2, [], [f"balisekit: {place}: {why}"])
+
+
+@pytest.mark.parametrize("value, option", [("200", ["--line-speed", "160"]), ("160", ["--line-speed", "160"])])
+def test_a_value_that_an_option_replaces(
+    value: str, option: List[str], run: Run, table: Callable[..., Path], tmp_path: Path
+) -> None:
+    """The line has both, and says which one is in force. So has JSON."""
+    path = table("group,telegram", f"A,{ALONE}")
+    (tmp_path / "balisekit.toml").write_text(f"[check]\nline_speed = {value}\n", "utf-8")
+    _, out, _ = run("check", path, *option)
+    (line,) = [line for line in out if line.startswith("settings: ")]
+    assert line.startswith("settings: --line-speed 160; ")
+    assert line.endswith(f"): check.line_speed = {value} (not used: --line-speed replaces it)")
+    _, out, _ = run("check", path, *option, "--json", "-")
+    given, stated = json.loads("\n".join(out))["settings"]
+    assert given["values"] == [{"name": "--line-speed", "value": "160", "sha256": None}]
+    wanted = {"name": "check.line_speed", "value": value, "sha256": None, "replaced_by": "--line-speed"}
+    assert stated["values"] == [wanted]

@@ -140,13 +140,17 @@ def test_it_is_found_through_a_link(tmp_path: Path) -> None:
 
 
 def limited(command: str, limit: str, folder: Path, **settings: str) -> Tuple[int, str, str]:
-    """What a check of a sound table answers within a limit of the shell."""
+    """What a check of a sound table answers within a limit of the shell. One that runs without end has status 124.
+
+    `timeout` ends all processes of the command. To kill only the first one would leave an interpreter, and its pipes.
+    """
     table = str(TOP / "examples" / "links" / "line.csv")
     words = ["bash", "-c", f'ulimit {limit} || exit 9; exec "$0" check "$1"', command, table]
     user = [] if os.getuid() else "setpriv --reuid=65534 --clear-groups --inh-caps=+dac_override".split()
     user += [] if os.getuid() else ["--ambient-caps=+dac_override"]
     known = {**os.environ, "BALISEKIT_PYTHON": str(DEBIAN), **settings}
-    done = subprocess.run([*user, *words], env=known, cwd=folder, capture_output=True, check=False, timeout=100)
+    words = ["timeout", "-k", "5", "60", *user, *words]
+    done = subprocess.run(words, env=known, cwd=folder, capture_output=True, check=False, timeout=100)
     return done.returncode, done.stdout.decode(), done.stderr.decode()
 
 

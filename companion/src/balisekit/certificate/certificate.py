@@ -3,15 +3,19 @@ from __future__ import annotations
 
 from collections import Counter
 from dataclasses import dataclass
-from typing import Callable, Dict, Iterable, List, Mapping, NamedTuple, Optional, Sequence, Tuple
+from typing import Callable, Dict, FrozenSet, Iterable, List, Mapping, NamedTuple, Optional, Sequence, Tuple
 
 from balisekit.certificate.judging import Answer, Baseline, Judge, Judgement
 from balisekit.certificate.trials import Trial, judgements, trials
+from balisekit.mistakes import catalogue
 from balisekit.mistakes.original import Original
 from balisekit.rules.families import Outcome
 
 COUNTED = (Answer.FOUND, Answer.ELSEWHERE, Answer.HINTED, Answer.NOT_FOUND)
 """The answers that say how good a check is."""
+
+FIELDS = "fields"
+"""The folder of the kinds of mistakes that change a field."""
 
 
 class Score(NamedTuple):
@@ -63,7 +67,7 @@ class Certificate:
 
     def by_field(self) -> Dict[str, Score]:
         """The changes of each variable, by packet and name, each of them once."""
-        of_fields = _once(each for each in self.judged if each[0].mistake.folder == "fields")
+        of_fields = _once(each for each in self.judged if each[0].mistake.folder == FIELDS)
         return _by(of_fields, lambda trial: trial.change.field)
 
     @property
@@ -91,6 +95,11 @@ def certificate(
     answers = {different[place].edit: judgement for place, judgement in done.items()}
     judged = [(trial, answers[trial.edit]) for trial in made if trial.edit in answers]
     return Certificate(outcome, judged, len(different) - len(done), per_kind, seed)
+
+
+def kinds_of_fields() -> FrozenSet[str]:
+    """The kinds of mistakes that are counted by fields too."""
+    return frozenset(mistake.name for mistake in catalogue() if mistake.folder == FIELDS)
 
 
 def score(judged: Sequence[Tuple[Trial, Judgement]]) -> Score:

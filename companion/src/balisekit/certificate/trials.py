@@ -4,15 +4,18 @@ from __future__ import annotations
 import os
 import signal
 import time
-from concurrent.futures import FIRST_COMPLETED, ProcessPoolExecutor, wait
+from contextlib import contextmanager
 from itertools import chain, islice, zip_longest
-from multiprocessing import get_context
+from multiprocessing import Pipe, get_context
+from multiprocessing.connection import Connection, wait
+from multiprocessing.process import BaseProcess
 from random import Random
-from typing import Callable, Dict, Iterator, List, Mapping, NamedTuple, Optional, Sequence, Tuple
+from typing import Callable, Dict, Iterator, List, Mapping, NamedTuple, Optional, Sequence, Tuple, cast
 
 from balisekit.certificate.judging import Answer, Baseline, Judgement
 from balisekit.certificate.same_meaning import same_meaning
 from balisekit.engine.program import Program, Text
+from balisekit.errors import NoAnswer, held
 from balisekit.io.workers import end_with_parent
 from balisekit.mistakes import catalogue
 from balisekit.mistakes.mistake import Change, Mistake
@@ -80,45 +83,93 @@ def judgements(
 ) -> Dict[int, Judgement]:
     """What the check says of each trial, by its place in the list. Those that the time is too short for are absent.
 
-    `tell` is called with the number of trials that are done.
+    `tell` is called with the number of trials that are done. Each process judges at least one part.
     """
     end = None if seconds is None else time.monotonic() + seconds
     parts = iter([range(first, min(first + PART, len(tried))) for first in range(0, len(tried), PART)])
     done: Dict[int, Judgement] = {}
-    with _pool(baseline, tried) as pool:
-        running = {pool.submit(_judge, part) for part in islice(parts, 2 * MOST_PROCESSES)}
-        while running:
-            complete, running = wait(running, return_when=FIRST_COMPLETED)
-            for part in complete:
-                done.update(part.result())
+    with _processes(baseline, tried) as idle:
+        busy = _handed(idle, parts)
+        while busy:
+            for each in wait(busy):
+                assert isinstance(each, Connection)
+                done.update(_answer(each))
+                busy.remove(each)
+                idle.append(each)
             tell(len(done))
             if end is None or time.monotonic() < end:
-                running |= {pool.submit(_judge, part) for part in islice(parts, len(complete))}
+                busy += _handed(idle, parts)
     return done
 
 
-_WORK: List[Tuple[Baseline, Sequence[Trial]]] = []
-"""What a process of the pool judges: it is a copy of this process, so nothing is handed over."""
+def _handed(idle: List[Connection], parts: Iterator[range]) -> List[Connection]:
+    """The idle processes that have a part to judge from now on."""
+    busy = []
+    for part in islice(parts, len(idle)):
+        busy.append(idle.pop())
+        busy[-1].send(part)
+    return busy
 
 
-def _pool(baseline: Baseline, tried: Sequence[Trial]) -> ProcessPoolExecutor:
-    """Processes that judge trials. Each is a copy of this one, and ends with it."""
-    _WORK[:] = [(baseline, tried)]
-    count = min(MOST_PROCESSES, len(os.sched_getaffinity(0)))
-    return ProcessPoolExecutor(count, mp_context=get_context("fork"), initializer=_begin)
+def _answer(process: Connection) -> Dict[int, Judgement]:
+    """What a process says of its part. What it raised is raised here."""
+    try:
+        answer = process.recv()
+    except (EOFError, ConnectionError) as error:
+        raise NoAnswer("a process that judges changes has ended too early: memory may have run out") from error
+    if isinstance(answer, BaseException):
+        raise answer
+    return cast(Dict[int, Judgement], answer)
 
 
-def _begin() -> None:
-    """Signals end the process that started this one, and that ends this one."""
+@contextmanager
+def _processes(baseline: Baseline, tried: Sequence[Trial]) -> Iterator[List[Connection]]:
+    """Processes that judge parts of the trials: as many as can be started. They end with the block.
+
+    Each is a copy of this one, so only the places of the trials are handed over. No thread takes part: one that cannot
+    start would let this process wait without end.
+    """
+    started: List[BaseProcess] = []
+    found: List[Connection] = []
+    try:
+        for _ in range(min(MOST_PROCESSES, len(os.sched_getaffinity(0)))):
+            try:
+                with held():
+                    found.append(_begun(baseline, tried, started))
+            except OSError as error:
+                if not found:
+                    raise NoAnswer(f"no process can be started: {error.strerror}") from error
+                break
+        yield found
+    finally:
+        for process in started:
+            process.kill()
+            process.join()
+
+
+def _begun(baseline: Baseline, tried: Sequence[Trial], started: List[BaseProcess]) -> Connection:
+    """The connection to one more process, which is added to those that were started."""
+    ours, theirs = Pipe()
+    try:
+        process = get_context("fork").Process(target=_serve, args=(theirs, baseline, tried))
+        process.start()
+        started.append(process)
+    finally:
+        theirs.close()
+    return ours
+
+
+def _serve(connection: Connection, baseline: Baseline, tried: Sequence[Trial]) -> None:
+    """Judges each part that comes. Signals end the process that started this one, and that ends this one."""
     end_with_parent()
     for number in (signal.SIGINT, signal.SIGTERM, signal.SIGHUP):
         signal.signal(number, signal.SIG_IGN)
-
-
-def _judge(part: Sequence[int]) -> Dict[int, Judgement]:
-    """The judgements of some trials, by their places."""
-    baseline, tried = _WORK[0]
-    return {place: judged(baseline, tried[place]) for place in part}
+    while True:
+        part = connection.recv()
+        try:
+            connection.send({place: judged(baseline, tried[place]) for place in part})
+        except Exception as error:  # (what the process that started this one then raises)
+            connection.send(error)
 
 
 def judged(baseline: Baseline, trial: Trial) -> Judgement:

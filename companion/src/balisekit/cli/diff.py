@@ -47,7 +47,8 @@ def run(options: argparse.Namespace) -> int:
     program = Program.find(options.program, options.timeout)
     old, new = (_checked(program, *side, named) for side in sides)
     tables = [table for table, _, document in sides if document is None]
-    found = compare(old, replace(new, settings=in_force(options, tables)), named)
+    settings = in_force(options, tables)
+    found = compare(replace(old, settings=settings), replace(new, settings=settings), named)
     found.lacks_names = not named and any(_has_names(*side[:2]) for side in sides if side[2] is None)
     if options.html:
         options.html.write(page(found, now))

@@ -67,12 +67,16 @@ def _settings_given(options: argparse.Namespace) -> Iterator[Setting]:
 def _source(
     file: own_headings.Found, options: argparse.Namespace, own: Collection[str], keys: Iterable[str], headed: bool
 ) -> Source:
-    """What a file states that is used, and differs from the defaults. `own` are the headings that tables have by it."""
+    """What a file states that differs from the defaults, or that an option replaces.
+
+    `own` are the headings that tables have by it.
+    """
     check, given = file.tables[own_headings.CHECK_TABLE], settings.given(options)
+    replaced = {key: f"--{key.replace('_', '-')}" for key in keys if key in given}
     stated = [
-        _setting(f"check.{key}", each, key in own_headings.FILES)
+        _setting(f"check.{key}", each, key in own_headings.FILES, replaced.get(key, ""))
         for key in keys
-        if key in check and key not in given and (key, check[key]) != DEFAULT
+        if key in check and (key in given or (key, check[key]) != DEFAULT)
         for each in (check[key] if key == own_headings.RULES_FROM else [check[key]])
     ]
     sheets = [own_headings.COLUMNS_TABLE, *([own_headings.EXPECT_TABLE] if getattr(options, "expect", None) else [])]
@@ -89,14 +93,15 @@ def _with_rules(settings: Iterable[Setting], added: Sequence[Rule]) -> Iterator[
     for setting in settings:
         origins = [rule.origin for rule in added if rule.origin and setting.name in RULES_FROM]
         own = [each for each in origins if setting.value in (each.package, each.path)]
-        yield from (Setting(setting.name, str(each), not each.package, each.sha256) for each in own)
+        yield from (setting._replace(value=str(each), is_path=not each.package, sha256=each.sha256) for each in own)
         yield from [] if own else [setting]
 
 
-def _setting(name: str, value: object, is_path: bool = False) -> Setting:
-    """A setting, with the checksum of the file that it names. A plan need not be written yet."""
+def _setting(name: str, value: object, is_path: bool = False, replaced_by: str = "") -> Setting:
+    """A setting, with the checksum of the file that it names, if this file is used. A plan need not be written yet."""
     if isinstance(value, (list, tuple, frozenset)):
-        return Setting(name, ",".join(map(str, sorted(value) if isinstance(value, frozenset) else value)))
-    is_written = is_path and os.path.exists(str(value))
-    sha256 = inputs.read_settings(str(value)).sha256 if is_written else ""
-    return Setting(name, "" if value is True else str(value), is_path, sha256)
+        text = ",".join(map(str, sorted(value) if isinstance(value, frozenset) else value))
+        return Setting(name, text, replaced_by=replaced_by)
+    is_read = is_path and not replaced_by and os.path.exists(str(value))
+    sha256 = inputs.read_settings(str(value)).sha256 if is_read else ""
+    return Setting(name, "" if value is True else str(value), is_path, sha256, replaced_by)

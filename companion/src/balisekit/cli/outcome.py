@@ -79,7 +79,7 @@ def outcome(options: argparse.Namespace, line: Options, keep: bool = False, inpu
     checked = replace(checked, settings=in_force(options, [table], keys, keep, line.added))
     if keep:
         checked.accepted.keep()
-    return apply(checked, asked, line, signed, began)
+    return replace(apply(checked, asked, line, signed, began), with_all=options.all)
 
 
 def links_of(outcome: Outcome, options: Options) -> Links:

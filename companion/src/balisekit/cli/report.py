@@ -12,7 +12,7 @@ from balisekit.cli.outcome import add_only, letters_of, links_of, outcome as out
 from balisekit.cli.selection import check_aspect
 from balisekit.io import clock
 from balisekit.io.inputs import InputPath
-from balisekit.present.certificate_json import read
+from balisekit.present.certificate_reading import read
 from balisekit.present.opening import from_table, opening
 from balisekit.present.outcome_text import closing_lines
 from balisekit.present.report_page import report_page

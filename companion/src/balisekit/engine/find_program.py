@@ -1,7 +1,6 @@
 """Where the program and its library are, and who knows their checksums: ABOUT and RELEASES."""
 from __future__ import annotations
 
-import glob
 import hashlib
 import os
 import shutil
@@ -215,7 +214,7 @@ def checksum(path: str) -> str:
             for piece in iter(lambda: file.read(1 << 20), b""):
                 digest.update(piece)
     except OSError as error:
-        raise NoAnswer(f"{path}: {error.strerror}") from error
+        raise NoAnswer(f"{path} cannot be read: {error.strerror}") from error
     return digest.hexdigest()
 
 
@@ -284,8 +283,10 @@ def all_papers() -> Iterator[Dict[str, str]]:
 
 def abouts() -> Iterator[Tuple[str, Dict[str, str]]]:
     """The folder and the lines of each ABOUT."""
-    stored = sorted(glob.glob(os.path.join(glob.escape(TOP), "dist", "*", "ABOUT")))
-    for about in [*stored, os.path.join(PACKAGE, "ABOUT")]:
+    dist, stored = os.path.join(TOP, "dist"), []
+    with suppress(OSError):
+        stored = sorted(os.path.join(dist, each, ABOUT) for each in os.listdir(dist) if each[0] != ".")
+    for about in [*stored, os.path.join(PACKAGE, ABOUT)]:
         try:
             with open(about, encoding="utf-8") as file:
                 lines = file.read().split("\n")

@@ -9,6 +9,8 @@ import re
 from functools import lru_cache
 from typing import Any, Dict, List, NamedTuple, Optional, Pattern, Tuple
 
+from balisekit.expressions import expression
+
 GRAMMAR = r"""
 number          0|[1-9][0-9]*
 count           [1-9][0-9]*
@@ -60,8 +62,8 @@ check           refused: {message}: (?P<text>not hexadecimal|{message fault})
 """
 
 
-LONG = re.compile("[0-9]{19}")
-BEGIN = re.compile("F([0-9]{1,2}) ")
+LONG = expression("[0-9]{19}")
+BEGIN = expression("F([0-9]{1,2}) ")
 """The beginning of a finding. Its rule determines the expression."""
 LINES: List[Tuple[str, str]] = re.findall(r"^(.+?) {2,}(.+)$", GRAMMAR, re.MULTILINE)
 """Each name with its expression."""

@@ -8,7 +8,6 @@ from __future__ import annotations
 
 import json
 import os
-import tempfile
 from collections.abc import Callable, Iterable, Iterator, Mapping, Sequence
 from contextlib import ExitStack
 from dataclasses import dataclass, field, replace
@@ -18,7 +17,7 @@ from typing import IO, TYPE_CHECKING, Any, ClassVar, Dict, List, NamedTuple, Opt
 from balisekit.engine import find_program, grammar, records
 from balisekit.engine.grammar import Finding, Refusal, Verdict
 from balisekit.engine.records import Form, Header, shared
-from balisekit.engine.run import HANDSHAKE_LIMIT, Limit, Run
+from balisekit.engine.run import HANDSHAKE_LIMIT, Limit, Run, temporary_file
 from balisekit.errors import NoAnswer
 
 if TYPE_CHECKING:
@@ -160,7 +159,7 @@ class Program:
 
     def check(self, document: Union[str, bytes, Mapping[str, Any], Iterable[str]]) -> Union[Report, Refusal]:
         """What the program reports of a document of a line: an object, its JSON, or the pieces of its JSON."""
-        with tempfile.TemporaryFile() as file:
+        with temporary_file() as file:
             file.writelines(pieces(document))
             file.flush()
             return self._check(file)
@@ -222,7 +221,7 @@ class Program:
 
     def _answers(self, words: Sequence[str], lines: Sequence[bytes]) -> Iterator[Answer]:
         """What the command writes for each of these lines."""
-        with tempfile.TemporaryFile() as file:
+        with temporary_file() as file:
             file.writelines(lines)
             size = file.tell()
             file.flush()
@@ -275,7 +274,7 @@ class Program:
         with ExitStack() as stack:
             runs = []
             for words, text, _, _ in HANDSHAKE:
-                file = stack.enter_context(tempfile.TemporaryFile())
+                file = stack.enter_context(temporary_file())
                 file.write(text.encode("ascii"))
                 file.seek(0)
                 runs.append(stack.enter_context(Run(self.path, words, file, limit)))

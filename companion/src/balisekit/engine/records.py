@@ -25,6 +25,8 @@ from typing import (
     get_type_hints,
 )
 
+from balisekit.expressions import expression
+
 Bit = Annotated[int, range(2)]
 UpToTwo = Annotated[int, range(3)]
 Byte = Annotated[int, range(256)]
@@ -166,7 +168,7 @@ ONLY_WITH: Dict[str, Tuple[Tuple[str, str], ...]] = {
 """A key is present if and only if another key of its object has one of these values."""
 BODIES = {True: (23, 1021), False: (21, 1022)}
 """Of a packet that is not decoded: the bits before its body, and the most bytes of the body, by who sends it."""
-DIGITS = re.compile("(?:[0-9a-f]{2})+")
+DIGITS = expression("(?:[0-9a-f]{2})+")
 """What `encode` writes."""
 
 
@@ -290,10 +292,10 @@ def _first_keys() -> Iterator[str]:
                 break
 
 
-BETWEEN = re.compile(rf',(?={{"(?:{"|".join(sorted(set(_first_keys())))})":)')
+BETWEEN = expression(rf',(?={{"(?:{"|".join(sorted(set(_first_keys())))})":)')
 """What is between two packets. No other object of a record begins with one of these keys."""
-VALUES = re.compile(":([0-9]+)")
-KEPT_AS_BITS = re.compile('"body":"[^"]*","l_packet":[0-9]+,"nid_packet":([0-9]+)')
+VALUES = expression(":([0-9]+)")
+KEPT_AS_BITS = expression('"body":"[^"]*","l_packet":[0-9]+,"nid_packet":([0-9]+)')
 DECODER = json.JSONDecoder()
 
 

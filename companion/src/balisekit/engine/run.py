@@ -22,6 +22,13 @@ DEFAULT_SIGNALS = (signal.SIGPIPE, signal.SIGXFSZ)
 """Signals that Python ignores, and its children must not."""
 
 
+def temporary_file() -> IO[bytes]:
+    """A file without a name."""
+    from tempfile import TemporaryFile  # (few commands need it, and its import takes long)
+
+    return TemporaryFile()
+
+
 class Limit(NamedTuple):
     """For how many seconds the program may keep balisekit waiting, and how many bytes it may write."""
 

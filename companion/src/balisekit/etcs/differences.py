@@ -12,11 +12,11 @@ from balisekit.etcs.packets import packet_name
 from balisekit.etcs.raw_packets import content_of, layout_words, with_content
 from balisekit.etcs.variables import (
     DIRECTIONS,
-    LABELS,
     Around,
     Form,
     Values,
     in_order,
+    label_of,
     value_texts,
     value_words,
     variable_name,
@@ -147,7 +147,7 @@ def _object(where: Where, old: Values, new: Values, before: Around, after: Aroun
         return
     for key in in_order({*old, *new} - {"packets"}):
         was, now = old.get(key), new.get(key)
-        inside = *where, PathStep(LABELS.get(key, key))
+        inside = *where, PathStep(label_of(key))
         if isinstance(was, list) or isinstance(now, list):
             yield from _list(where, key, was or [], now or [], before, after)
         elif isinstance(was, dict) and isinstance(now, dict):
@@ -169,7 +169,7 @@ def _list(
     where: Where, key: str, old: Sequence[Any], new: Sequence[Any], before: Around, after: Around
 ) -> Iterator[Change]:
     """What differs in a list. An item that is no object counts as one with the key of the list."""
-    name = LABELS.get(key, key)
+    name = label_of(key)
     was_items, now_items = ([item if isinstance(item, dict) else {key: item} for item in items] for items in (old, new))
     for was, now in align(was_items, now_items):
         if was is not None and now is not None:

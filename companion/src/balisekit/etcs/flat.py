@@ -8,7 +8,17 @@ from typing import Iterator, Mapping, NamedTuple, Optional, Tuple, Union
 
 from balisekit.etcs.places import Here, packet_kilometres
 from balisekit.etcs.raw_packets import content_of, with_content
-from balisekit.etcs.variables import BESIDE, LABELS, NO_FORM, Around, Form, Values, in_order, value_words, variable_name
+from balisekit.etcs.variables import (
+    BESIDE,
+    NO_FORM,
+    Around,
+    Form,
+    Values,
+    in_order,
+    label_of,
+    value_words,
+    variable_name,
+)
 
 NUMBER = re.compile(r"\+?(-?\d+(?:\.\d+)?) (m|km/h|s|‰|mm|bits|days|A|m/s²)(?:, .*| to either side)?")
 """Words that are a number with its unit."""
@@ -59,11 +69,11 @@ def _object(
         value, below = form[key], f"{path}/{key}"
         if isinstance(value, list):
             for place, item in enumerate(value):
-                label = _joined(where[1], f"{LABELS.get(key, key)} {place}")
+                label = _joined(where[1], f"{label_of(key)} {place}")
                 item = item if isinstance(item, dict) else {key: item}
                 yield from _object((where[0], label), item, f"{below}/{place}", inner, kilometres)
         elif isinstance(value, dict):
-            label = _joined(where[1], LABELS.get(key, key))
+            label = _joined(where[1], label_of(key))
             yield from _object((where[0], label), value, below, inner, kilometres)
         else:
             beside = form.get(BESIDE[key]) if key in BESIDE else None

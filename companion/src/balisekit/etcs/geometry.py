@@ -8,11 +8,12 @@ from __future__ import annotations
 from dataclasses import dataclass
 from decimal import Decimal
 from enum import Enum
-from functools import cached_property, lru_cache
+from functools import cached_property
 from itertools import accumulate
 from typing import Dict, Iterator, List, Literal, Mapping, NamedTuple, Optional, Sequence, Tuple, TypeVar
 
 from balisekit.etcs.variables import Form, unit_dm
+from balisekit.tables.chainage import kilometre_of as kilometre_of
 from balisekit.tables.model import Group
 from balisekit.tables.names import kilometre as kilometre
 
@@ -118,14 +119,6 @@ class Kilometres:
         if whole is None:
             return kilometre((self.group or Decimal()) + Decimal(along).scaleb(-4))
         return kilometre_of(whole + along)
-
-
-@lru_cache(maxsize=1 << 14)
-def kilometre_of(place: int) -> str:
-    """A place of whole decimetres as `kilometre` writes it, without decimal numbers, which are slow."""
-    whole, part = divmod(abs(place), 10_000)
-    digits = f"{part:04}"
-    return f"{'-' if place < 0 else ''}{whole}.{digits[:3]}{digits[3:].rstrip('0')}"
 
 
 RISING = {"rising": 1, "falling": -1}

@@ -21,12 +21,14 @@ from dataclasses import dataclass
 from functools import lru_cache
 from typing import Any, Dict, Iterator, List, Mapping, NamedTuple, Optional, Tuple, Union
 
+from balisekit.expressions import expression
+
 DATA = "raw_layouts.json"
 CERTAIN = 97
 """From how many per cent on a layout is certain. No remark rests on another one, but one can make E5 silent."""
 IMPLIED = ("Q_NEWCOUNTRY", "N_ITER")
 """Variables without a key, as in the program's JSON: other keys, and lengths of lists, give their values."""
-NUMBERS = re.compile(r"(\d+)(?: to (\d+))?(?: (.+))?")
+NUMBERS = expression(r"(\d+)(?: to (\d+))?(?: (.+))?")
 
 
 class Span(NamedTuple):

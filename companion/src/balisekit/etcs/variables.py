@@ -1,15 +1,14 @@
 """What the variables of telegrams and messages are called, and what their numbers mean (SUBSET-026, 7.5.1).
 
 Each key of the program's JSON that has a number is in `VARIABLES`: a function gives it with a unit or by name.
-Each other key has a label. A number that needs neither unit nor name has no words. `WORDS` has the keys of packets
-that balisekit reads by its own layouts as well.
+Each other key has a label. A number that needs neither unit nor name has no words. Keys of packets that balisekit reads
+by its own layouts have words as well. These layouts are read only for such keys.
 """
 from __future__ import annotations
 
 from decimal import Decimal
 from functools import lru_cache
-from graphlib import TopologicalSorter
-from typing import Any, Callable, Dict, Iterable, Iterator, List, Mapping, NamedTuple, Optional, Sequence, Tuple, Union
+from typing import Any, Callable, Dict, Iterable, List, Mapping, NamedTuple, Optional, Sequence, Union
 
 from balisekit.engine import records
 from balisekit.etcs import raw_layouts
@@ -193,10 +192,11 @@ def _with_unit(value: int, variable: raw_layouts.Variable, around: Around) -> st
     return f"{value * Decimal(factor or 1)} {name}" if unit else ""
 
 
-def _raw_keys() -> Iterator[Tuple[str, raw_layouts.Variable]]:
+@lru_cache(maxsize=None)
+def _raw_keys() -> Mapping[str, raw_layouts.Variable]:
     """The keys of balisekit's own layouts that the program's JSON does not have."""
-    for layout in raw_layouts.layouts().values():
-        yield from ((one.key, one.variable) for one in raw_layouts.all_ones(layout.fields) if one.key not in VARIABLES)
+    ones = (one for layout in raw_layouts.layouts().values() for one in raw_layouts.all_ones(layout.fields))
+    return {one.key: one.variable for one in ones if one.key not in VARIABLES}
 
 
 def _raw_name(key: str, variable: raw_layouts.Variable) -> str:
@@ -206,28 +206,45 @@ def _raw_name(key: str, variable: raw_layouts.Variable) -> str:
 
 RAW_TEXTS = {"other_data": "other data", "x_text": "X_TEXT"}
 """Keys of balisekit's own layouts that have a text, with their names."""
-WORDS: Mapping[str, Words] = {
-    **{key: _raw_words(variable) for key, variable in _raw_keys()},
-    **dict.fromkeys(RAW_TEXTS, named({}, "")),
-    **VARIABLES,
-}
 
 
-def _ordered() -> List[str]:
-    """All keys in an order in which the keys of each object are in the order of its bits."""
+def words_of(key: str) -> Optional[Words]:
+    """What gives the numbers of a key in words. None if its value is no number or text of a packet."""
+    return VARIABLES.get(key) or _raw_words_by_key().get(key)
+
+
+@lru_cache(maxsize=None)
+def _raw_words_by_key() -> Mapping[str, Words]:
+    own = {key: _raw_words(variable) for key, variable in _raw_keys().items()}
+    return {**own, **dict.fromkeys(RAW_TEXTS, named({}, ""))}
+
+
+@lru_cache(maxsize=None)
+def _places() -> Mapping[str, int]:
+    """The place of each key in an order in which the keys of each object are in the order of its bits."""
+    from graphlib import TopologicalSorter
+
     objects = (each for layout in raw_layouts.layouts().values() for each in raw_layouts.objects(layout.fields))
     chains = [list(Form.__annotations__), *(keys if inside else ["body", *keys] for inside, keys in objects)]
     before: Dict[str, List[str]] = {}
     for chain in chains:
         for place, key in enumerate(chain):
             before.setdefault(key, []).extend(chain[place - 1 : place] if place else [])
-    return list(TopologicalSorter(before).static_order())
+    return {key: place for place, key in enumerate(TopologicalSorter(before).static_order())}
 
 
-_PLACES = {key: place for place, key in enumerate(_ordered())}
-LABELS = {key: key.removesuffix("s").replace("_", " ") for key in _PLACES if key not in WORDS}
-LABELS["transitions"] = "choice"
-"""The names of parts and of their items."""
+def label_of(key: str) -> str:
+    """The name of a part, or of its items."""
+    return labels().get(key, key)
+
+
+@lru_cache(maxsize=None)
+def labels() -> Mapping[str, str]:
+    """The names of parts and of their items."""
+    own = {key: key.removesuffix("s").replace("_", " ") for key in _places() if words_of(key) is None}
+    return {**own, "transitions": "choice"}
+
+
 NAMES = {
     "user_bits": "user bits",
     "end_speed": "V_LOA",
@@ -235,21 +252,23 @@ NAMES = {
     "prv_nid_c": "NID_C of NID_PRVLRBG",
     "prv_nid_bg": "NID_BG of NID_PRVLRBG",
     **RAW_TEXTS,
-    **{key: _raw_name(key, variable) for key, variable in _raw_keys() if key != variable.name.lower()},
 }
-"""The variables whose keys are not the standard's names in small letters."""
+"""The variables whose keys are not the standard's names in small letters, but for those of balisekit's own layouts."""
 
 
 def in_order(keys: Iterable[str]) -> List[str]:
     """Keys in the order in which the standard has the variables. Those that are not known come last."""
-    return sorted(keys, key=lambda key: (_PLACES.get(key, len(_PLACES)), key))
+    places = _places()
+    return sorted(keys, key=lambda key: (places.get(key, len(places)), key))
 
 
 def variable_name(key: str, parent: Values) -> str:
     """The standard's name of the variable that this key of `parent` holds."""
     if key == "nc":
         return "NC_CDDIFF" if parent.get("q_diff") == 0 else "NC_DIFF"
-    return NAMES.get(key) or (key.upper() if key in WORDS else key)
+    if key in NAMES or key in VARIABLES:
+        return NAMES.get(key) or key.upper()
+    return _raw_name(key, _raw_keys()[key]) if key in _raw_keys() else key
 
 
 BESIDE: Mapping[str, str] = {
@@ -287,7 +306,8 @@ def value_words(key: str, value: Union[int, str], around: Around) -> str:
     """The value in words, with its unit; nothing if it needs none, or its key is not known here."""
     if isinstance(value, str):
         return _body_words(around) if key == "body" else ""
-    return WORDS[key](value, around) if key in WORDS else ""
+    words = words_of(key)
+    return words(value, around) if words else ""
 
 
 def _body_words(around: Around) -> str:

@@ -3,13 +3,14 @@ from __future__ import annotations
 
 import csv
 import io
-import re
 from itertools import islice
 from typing import Iterable, Iterator, Sequence
 
+from balisekit.expressions import expression
+
 FORMULAS = ("=", "+", "-", "@", "\t", "\r")
 """A spreadsheet may take a cell that begins with one of these for a formula."""
-NUMBER = re.compile("-[0-9]+([.][0-9]+)?")
+NUMBER = expression("-[0-9]+([.][0-9]+)?")
 """No formula, although it begins like one."""
 PIECE = 1000
 """The rows of a piece."""

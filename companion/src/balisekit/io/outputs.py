@@ -7,7 +7,6 @@ import shutil
 import stat
 import sys
 from contextlib import contextmanager
-from tempfile import SpooledTemporaryFile
 from typing import TYPE_CHECKING, Iterable, Iterator, List, Mapping, Sequence, Union
 
 from balisekit.errors import NoAnswer, TableError, held
@@ -82,6 +81,8 @@ class Output:
     def write(self, pieces: Iterable[Union[str, bytes]]) -> None:
         """Writes the content: to standard output once it is complete, and to the path once `place` is called."""
         if self.is_standard_output:
+            from tempfile import SpooledTemporaryFile  # (its import takes long)
+
             with SpooledTemporaryFile(IN_MEMORY) as content:
                 content.writelines(encoded(pieces))
                 content.seek(0)

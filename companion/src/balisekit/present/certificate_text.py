@@ -43,20 +43,23 @@ def lines(made: Certificate, written: Sequence[str] = ()) -> Iterator[str]:
 
 
 def last_line(made: Certificate) -> str:
-    """How good the check of this line is, in one line: for the cover of a report too.
+    """How good the check of this line is, in one line: for the cover of a report too."""
+    kinds = sum(1 for score in made.by_kind().values() if score.tried)
+    return line_of(made.whole, kinds, made.not_tried, made.not_seen, missing(made.outcome))
+
+
+def line_of(whole: Score, kinds: int, not_tried: int, not_seen: Sequence[str], lacks: Sequence[str]) -> str:
+    """The last line by its figures: of all changes, how many kinds were tried, and which variables are not seen.
 
     It begins with INCOMPLETE and the reasons if an answer of `check` would: then the status is 2.
     """
-    whole, kinds = made.whole, sum(1 for score in made.by_kind().values() if score.tried)
     elsewhere, hinted = (whole.answers.get(each, 0) for each in (Answer.ELSEWHERE, Answer.HINTED))
     found = f"{whole.found:,} ({whole.share} %)" if whole.tried else "none"
     text = f"of {whole.tried:,} changes of {kinds} kinds this check would find {found}"
     text += f", {elsewhere:,} elsewhere" if elsewhere else ""
     text += f", and hint at {hinted:,}" if hinted else ""
-    text += f"; {made.not_tried:,} more were not tried, because the time was over" if made.not_tried else ""
-    not_seen = made.not_seen
+    text += f"; {not_tried:,} more were not tried, because the time was over" if not_tried else ""
     named = ", ".join(not_seen[:NAMED]) + (f" and {len(not_seen) - NAMED} more" if len(not_seen) > NAMED else "")
-    lacks = missing(made.outcome)
     text = f"INCOMPLETE: {', '.join(lacks)}; {text}" if lacks else text
     return f"{text}; not seen: {named}" if not_seen else text
 

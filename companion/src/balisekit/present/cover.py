@@ -11,7 +11,7 @@ from balisekit.io import clock
 from balisekit.present import NOT_PROVED, headings
 from balisekit.present.accepted_text import fault_lines
 from balisekit.present.account_text import account_lines
-from balisekit.present.certificate_json import Certified
+from balisekit.present.certificate_reading import Certified
 from balisekit.present.check_text import aspects_found
 from balisekit.present.links_text import empty_rules
 from balisekit.present.opening import entries_words, known_words, paths_from, program_words, settings_words

@@ -33,6 +33,7 @@ def lines(found: Difference) -> Iterator[str]:
     for word, side in (("old", found.old), ("new", found.new)):
         yield f"{word}: {head_line(side.checked.table)}"
     yield from opening(found.new.checked)
+    yield from (f"in old: {line}" for line in opening_of_old(found))
     yield ABOUT
     for word, side in (("old", found.old), ("new", found.new)):
         yield from (f"in {word}: {note}" for note in notes_on(side.checked.table))
@@ -55,6 +56,15 @@ def lines(found: Difference) -> Iterator[str]:
     yield from (line for place in found.findings_new for line in finding_lines(place, "finding new: "))
     yield f"unchanged: {found.unchanged}, SHA-256 {found.sha256}"
     yield last_line(found)
+
+
+def opening_of_old(found: Difference) -> Iterator[str]:
+    """The program and the settings of the old side where they are others than those of the new one.
+
+    The command has the same ones for both sides. Results of the Python API have their own.
+    """
+    new = set(opening(found.new.checked))
+    return (line for line in opening(found.old.checked) if line not in new)
 
 
 def where(changed: Changed) -> str:
@@ -123,7 +133,14 @@ def as_json(found: Difference) -> Dict[str, Any]:
 def _side_json(checked: Checked, shown: Shown) -> Dict[str, Any]:
     verdict = checked.verdict.line if checked.verdict and checked.whole else None
     table = checked.table
-    return {"path": shown(table.path), "sha256": table.sha256, "verdict": verdict, "notes": notes_on(table)}
+    return {
+        "path": shown(table.path),
+        "sha256": table.sha256,
+        "verdict": verdict,
+        "program": program_json(checked.program),
+        "settings": settings_json(checked.settings, shown),
+        "notes": notes_on(table),
+    }
 
 
 def _renumbered_json(each: Renumbered) -> Dict[str, Any]:
@@ -158,6 +175,7 @@ def page(found: Difference, now: datetime) -> Iterator[str]:
         shown=paths_from(checked),
         program=program_words(checked.program),
         settings=settings_words(checked.settings, paths_from(checked)),
+        opening_of_old=list(opening_of_old(found)),
         where=where,
         last_line=last_line(found),
         not_proved=ABOUT,

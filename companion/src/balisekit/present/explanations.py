@@ -9,6 +9,7 @@ import os
 import re
 from typing import Dict, Iterable, Iterator, Mapping, NamedTuple, Optional, Sequence, Tuple
 
+from balisekit.expressions import expression
 from balisekit.rules.discovery import ADDED
 from balisekit.rules.families import FAMILIES, PROVED, Family
 from balisekit.rules.rule import FALSE_ALARM, Rule
@@ -28,7 +29,7 @@ WHOLE = (
 """All paragraphs of a page. Only rules of balisekit's remarks state how sure they are."""
 EXPLAINED = tuple(head for head in WHOLE if head != "Example")
 """The paragraphs that `--explain` shows beside the findings of a table."""
-ASSUMPTION = re.compile(
+ASSUMPTION = expression(
     r"(?<=\.) (?=(?:The rule|It|Finally, it)(?: also)? (?:assumes|takes|relies)\b|On a track for one direction)"
 )
 """Where the next assumption of a rule begins."""

@@ -50,6 +50,8 @@ def about(entry: Entry) -> str:
         parts += [f"balise{several} {', '.join(map(str, entry.balises))}"] if entry.balises else []
     elif entry.rows:
         parts.append(rows_words(entry.rows))
+    elif entry.remark and entry.remark.location.listed:
+        parts += ["track plan", clean(entry.remark.location.listed)]
     directions = {entry.direction: None} if entry.direction else {}
     directions.update(dict.fromkeys(place.finding.direction for place in entry.findings if place.finding.direction))
     return "  ".join([*parts, *([" and ".join(map(str, directions))] if directions else [])])

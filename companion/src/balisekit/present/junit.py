@@ -1,10 +1,10 @@
 """The answer of `check` as JUnit writes the results of tests: a suite for each family of rules.
 
-A suite has a case for each group and message, and for each rule that compared nothing. A group or message that some
-rules passed over is skipped, with the reason. The first suite also has a case for each refused message, each entry at
-fault, and each column or sheet whose telegrams are not judged. Cases have no time, because the program and the rules
-look at all groups in one run. Python's own XML library writes the file, so its form does not depend on installed
-packages.
+A suite has a case for each group and message, for each name that only the track plan has, and for each rule that
+compared nothing. A group or message that some rules passed over is skipped, with the reason. The first suite also has a
+case for each refused message, each entry at fault, and each column or sheet whose telegrams are not judged. Cases have
+no time, because the program and the rules look at all groups in one run. Python's own XML library writes the file, so
+its form does not depend on installed packages.
 """
 from __future__ import annotations
 
@@ -24,6 +24,7 @@ from balisekit.rules.accepted import Item, Judged
 from balisekit.rules.checking import Checked, Place
 from balisekit.rules.discovery import ADDED
 from balisekit.rules.families import PROVED, Outcome, Part
+from balisekit.rules.location import Location
 from balisekit.tables.model import Group
 from balisekit.tables.names import clean, describe_message
 
@@ -32,6 +33,12 @@ PROGRAMS = {PROVED: "balisecheck", ADDED: "added rules"}
 CASES = (Kind.REFUSED, Kind.LEFT_OUT, Kind.ENTRY, Kind.FAULT)
 """The kinds of lines that are cases."""
 NAMES = {"failures": "failure", "errors": "error", "skipped": "skipped"}
+
+
+class Listed(NamedTuple):
+    """What only the track plan has, by its name in the plan."""
+
+    name: str
 
 
 class Case(NamedTuple):
@@ -100,6 +107,8 @@ def _cases(outcome: Outcome, part: Part) -> Iterator[Case]:
     for accepted in checked.accepted_messages:
         name, number = describe_message(accepted.message), accepted.message.number
         yield case_of("message", name, items.get(number, []), passed_over.get(number, ""))
+    for listed in (about for about in items if isinstance(about, Listed)):
+        yield case_of("plan", clean(listed.name), items[listed], "")
     for rule, text in empty_rules(part.applied).items() if part.applied else ():
         yield Case("rule", rule, "error", text)
     if is_first:
@@ -115,13 +124,16 @@ def _passed_over(part: Part) -> Mapping[object, str]:
 
 
 def _about(item: Item) -> Iterable[object]:
-    """The names of the groups, and the lines of the messages, each once."""
+    """The names of the groups, the lines of the messages, and what only the track plan has, each once."""
     if isinstance(item, Place):
         return [item.group.name if item.group else item.message.number if item.message else None]
-    return dict.fromkeys(
-        where.message.number if where.message else where.group.group.name if where.group else None
-        for where in item.everywhere
-    )
+    return dict.fromkeys(map(_about_place, item.everywhere))
+
+
+def _about_place(where: Location) -> object:
+    if where.listed:
+        return Listed(where.listed)
+    return where.message.number if where.message else where.group.group.name if where.group else None
 
 
 def _left_out(checked: Checked) -> Iterator[Tuple[str, Case]]:

@@ -3,6 +3,7 @@ from __future__ import annotations
 
 import re
 from collections import Counter
+from dataclasses import replace
 from typing import Any, Dict, Iterator, List, Sequence
 
 from balisekit.present import NOT_PROVED
@@ -16,13 +17,15 @@ from balisekit.rules.checking import Checked
 from balisekit.rules.discovery import first_to_last
 from balisekit.rules.families import FAMILIES, entry_of_remark
 from balisekit.rules.links import L2, RULES, Links
-from balisekit.rules.location import ANOTHER_TRACK
+from balisekit.rules.location import ANOTHER_TRACK, NO_TRACK
 from balisekit.rules.rule import Remark, Result, Rule
-from balisekit.tables.names import clean, passed_over
+from balisekit.tables.names import clean, counted, passed_over
 
 OF_RULES = first_to_last(RULES)
 FORMAT = 1
 """The version of the JSON. An added key does not change it."""
+LEAVING = {ANOTHER_TRACK: "to another track", NO_TRACK: "between a group without a track and one with a track"}
+"""What is said of links that leave a track, by the reason for which L2 does not compare them."""
 ABOUT = f"{OF_RULES} are rules of balisekit; {NOT_PROVED}"
 
 
@@ -70,15 +73,16 @@ def found(links: Links, rules: str = "") -> str:
 
 
 def compared(links: Links, with_reasons: bool = False) -> str:
-    """What each rule has compared, and why not the rest if that is asked for; then the links to another track.
+    """What each rule has compared, and why not the rest if that is asked for; then the links that leave a track.
 
     Rules that have compared the same number of the same things are named together.
     """
     rules: Dict[str, List[str]] = {}
     for rule, result in links.results.items():
         rules.setdefault(_compared(rule, result, with_reasons), []).append(rule.name)
-    others = links.results[L2].not_looked_at.get(ANOTHER_TRACK, 0) if L2 in links.results else 0
-    more = f"; not compared: {others} link{'' if others == 1 else 's'} to another track" if others else ""
+    counts = links.results[L2].not_looked_at if L2 in links.results else {}
+    leaving = [f"{counted(counts[why], 'link')} {words}" for why, words in LEAVING.items() if counts.get(why)]
+    more = f"; not compared: {', '.join(leaving)}" if leaving else ""
     things = ", ".join(f"{things} ({', '.join(names)})" for things, names in rules.items())
     return f"compared: {things}{more}"
 
@@ -120,6 +124,28 @@ def not_compared(links: Links) -> Iterator[str]:
         if result.skipped:
             of_all = _things(rule, result.looked_at + result.skipped)
             yield f"not compared by {rule.name}: {result.skipped} of {of_all} ({_reasons(result)})"
+
+
+def is_usual(result: Result) -> bool:
+    """Whether a rule has passed over what it passes over of sound lines too, and nothing else."""
+    return all(why in result.usual for why, count in result.not_looked_at.items() if count)
+
+
+def not_compared_in_short(links: Links) -> Iterator[str]:
+    """The same. Rules that passed over only what sound lines have too are one line, with their counts."""
+    skipping = {rule: result for rule, result in links.results.items() if result.skipped}
+    usual = [rule for rule, result in skipping.items() if is_usual(result)]
+    others = {rule: result for rule, result in skipping.items() if rule not in usual}
+    yield from not_compared(replace(links, results=others))
+    if usual:
+        counts = (f"{skipping[rule].skipped} of {_things(rule, _all_things(skipping[rule]))}" for rule in usual)
+        rules = ", ".join(f"{count} ({rule.name})" for rule, count in zip(usual, counts))
+        yield f"not compared, as of most lines: {rules}; --all lists the reasons"
+
+
+def _all_things(result: Result) -> int:
+    """How many things there are."""
+    return result.looked_at + result.skipped
 
 
 def _things(rule: Rule, count: int) -> str:

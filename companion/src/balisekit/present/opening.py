@@ -6,12 +6,12 @@ same in each folder in which the command ran.
 from __future__ import annotations
 
 import os
-import re
 from functools import partial
 from typing import Any, Callable, Dict, Iterator, List, Optional
 
 from balisekit.engine.find_program import ABOUT, RELEASES, SOURCES
 from balisekit.engine.program import Program
+from balisekit.expressions import expression
 from balisekit.io import clock
 from balisekit.rules.accepted import Judged
 from balisekit.rules.checking import Checked
@@ -26,7 +26,7 @@ KNOWN = {
 }
 """What is said of a program, by what its checksum is known by."""
 NAMES = {"program": "balisecheck", "library": "libbalisecheck", "module": "balisecheck.mjs"}
-PLAIN = re.compile("[-+/.,A-Za-z0-9_]*")
+PLAIN = expression("[-+/.,A-Za-z0-9_]*")
 """A value that needs no quotes."""
 DEFAULTS = "all have their defaults"
 Shown = Callable[[str], str]
@@ -59,7 +59,13 @@ def program_words(program: Program) -> str:
     """Which program or library answered, and whether it is a released one."""
     name = NAMES[program.kind]
     version = f" {program.about['version']}" if "version" in program.about else ""
-    return f"{name}{version}, SHA-256 {program.sha256}: {known_words(program)}"
+    return f"{name}{version}, SHA-256 {program.sha256}: {known_words(program)}{_node_words(program)}"
+
+
+def _node_words(program: Program) -> str:
+    """Which node runs a module."""
+    about = program.about
+    return f", run by node {clean(about['node_version'])}, {clean(about['node'])}" if "node" in about else ""
 
 
 def known_words(program: Program) -> str:
@@ -75,8 +81,13 @@ def settings_words(settings: Settings, shown: Shown = str) -> str:
 def _source_words(source: Source, shown: Shown) -> str:
     if not source.path:
         return ", ".join(f"{each.name} {_value(each, shown)}".strip() for each in source.settings)
-    words = ", ".join(f"{each.name} = {_value(each, shown)}" for each in source.settings)
+    words = ", ".join(f"{each.name} = {_value(each, shown)}{_replaced(each)}" for each in source.settings)
     return f"{clean(shown(source.path))} (SHA-256 {source.sha256}): {words or DEFAULTS}"
+
+
+def _replaced(setting: Setting) -> str:
+    """Which option replaces a value of a file."""
+    return f" (not used: {setting.replaced_by} replaces it)" if setting.replaced_by else ""
 
 
 def _value(setting: Setting, shown: Shown) -> str:
@@ -115,4 +126,5 @@ def settings_json(settings: Settings, shown: Shown) -> List[Dict[str, Any]]:
 
 def _setting_json(setting: Setting, shown: Shown) -> Dict[str, Optional[str]]:
     value = shown(setting.value) if setting.is_path else setting.value
-    return {"name": setting.name, "value": value, "sha256": setting.sha256 or None}
+    replaced = {"replaced_by": setting.replaced_by} if setting.replaced_by else {}
+    return {"name": setting.name, "value": value, "sha256": setting.sha256 or None, **replaced}

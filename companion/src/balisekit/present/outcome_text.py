@@ -16,7 +16,14 @@ from balisekit.present.check_text import (
     missing_in,
 )
 from balisekit.present.explanations import Page, page_lines, pages
-from balisekit.present.links_text import compared, empty_rules, found, how_many_compared, not_compared
+from balisekit.present.links_text import (
+    compared,
+    empty_rules,
+    found,
+    how_many_compared,
+    not_compared,
+    not_compared_in_short,
+)
 from balisekit.present.opening import Shown, opening, paths_from
 from balisekit.present.refusals import lacking, not_tried, refused_lines
 from balisekit.rules.accepted import UNNAMED, Item, keys
@@ -91,7 +98,8 @@ def lines(
 
     `notes` are on what else was written. `with_folded` also lists the entries that are folded below another one.
     """
-    return without_reasons(answer(outcome, str, explained, proposed, notes, with_folded=with_folded))
+    in_short = not outcome.with_all
+    return without_reasons(answer(outcome, str, explained, proposed, notes, True, with_folded, in_short))
 
 
 def without_reasons(some: Iterable[AnswerLine]) -> Iterator[str]:
@@ -113,8 +121,12 @@ def answer(
     notes: Sequence[str] = (),
     has_entries: bool = True,
     with_folded: bool = False,
+    in_short: bool = False,
 ) -> Iterator[AnswerLine]:
-    """All lines of an answer, with paths as they are `shown`, or those that are about no entry."""
+    """All lines of an answer, with paths as they are `shown`, or those that are about no entry.
+
+    Those on what rules E pass over of sound lines too are one line `in_short`.
+    """
     checked, judged, table = outcome.checked, outcome.judged, outcome.checked.table
     yield AnswerLine(Kind.HEAD, head_line(table, shown))
     yield from map(AnswerLine, (Kind.PROGRAM, Kind.SETTINGS, Kind.ACCEPTED), opening(checked, judged, shown))
@@ -127,7 +139,7 @@ def answer(
             none = " all folded below other entries" if part.items and not part.entries else ""
             yield AnswerLine(Kind.TITLE, f"{part.family.title}:{none if part.items else ' none'}")
         yield from _entries(outcome, part, with_folded) if has_entries else ()
-        yield from behind(outcome, part)
+        yield from behind(outcome, part, in_short)
     yield from _listed(outcome.expected, with_folded) if has_entries else ()
     yield from _of(Kind.PAGE, page_lines(explained_rules(outcome)) if explained else ())
     yield from _of(Kind.NOT_DECODED, not_decoded(outcome))
@@ -164,15 +176,17 @@ def _entries(outcome: Outcome, part: Part, with_folded: bool) -> Iterator[Answer
         yield from _of(Kind.ENTRY, (f"    {accepted_words(each)}" for each in outcome.acceptances(entry)))
 
 
-def behind(outcome: Outcome, part: Part) -> Iterator[AnswerLine]:
+def behind(outcome: Outcome, part: Part, in_short: bool = False) -> Iterator[AnswerLine]:
     """The lines after the entries of a part: how many there are, or notes and what rules have compared."""
     if part.applied is None:
-        yield from _of(Kind.SUMMARY, headings.summary(outcome.checked, part.open, outcome.judged is not None), part)
+        quoting = [entry for each in outcome.parts for entry in each.open if entry.findings]
+        yield from _of(Kind.SUMMARY, headings.summary(outcome.checked, quoting, outcome.judged is not None), part)
         return
     yield from _of(Kind.NOTE, notes_of(part), part)
     if part.family.letter in COUNTED:
         yield from _of(Kind.COMPARED, [compared(part.applied, part.family.letter != LINKS)], part)
-    yield from _of(Kind.NOT_COMPARED, not_compared(part.applied), part)
+    reasons = not_compared_in_short if in_short and part.family.letter == MEANING else not_compared
+    yield from _of(Kind.NOT_COMPARED, reasons(part.applied), part)
     if part.family.letter == MEANING and not all(rule.is_default for rule in part.family.rules):
         yield from _of(Kind.APPLIED, [f"applied: {', '.join(rule.name for rule in part.family.rules)}"], part)
 

@@ -13,7 +13,7 @@ from balisekit.drawing.svg import in_page
 from balisekit.drawing.track import track_pictures, tracks_of
 from balisekit.drawing.track_pages import shares
 from balisekit.io.workers import copies, shared
-from balisekit.present.certificate_json import Certified
+from balisekit.present.certificate_reading import Certified
 from balisekit.present.cover import cover
 from balisekit.present.explanations import with_items
 from balisekit.present.outcome_text import explained_rules

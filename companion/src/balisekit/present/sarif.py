@@ -90,6 +90,7 @@ def document(outcome: Outcome) -> Object:
         "programKind": checked.program.kind,
         "programSha256": checked.program.sha256,
         "programKnownBy": checked.program.known_by,
+        **({"programNode": checked.program.about["node"]} if "node" in checked.program.about else {}),
         "settings": settings_json(checked.settings, paths_from(checked)),
     }
     driver = {"name": "balisekit", "version": __version__, "fullName": f"balisecheck and balisekit; {NOT_PROVED}"}

@@ -13,7 +13,7 @@ from balisekit.present.refusals import lacking, refused_lines
 from balisekit.rules.checking import Checked
 from balisekit.rules.entries import Entry
 from balisekit.rules.families import Outcome
-from balisekit.tables.names import clean, describe_balise, quoted
+from balisekit.tables.names import clean, counted, describe_balise, quoted
 
 NUMBERS = ("balise", "raw", "value")
 """The columns whose numbers are stored as numbers in an .xlsx."""
@@ -50,7 +50,7 @@ def _cell(column: str, text: str) -> Union[str, int, float]:
 def difference_words(each: Difference) -> str:
     """A difference in a line: the row of the sheet, both values, and which variable it is."""
     if each.place is None:
-        return f"row {each.row}: {clean(each.what)}"
+        return f"row {each.row} of the sheet: {clean(each.what)}"
     row, group, variable, _ = each.place
     parts = [describe_balise(group, row)]
     parts += [f"packet {variable.packet}"] if variable.packet else []
@@ -58,15 +58,16 @@ def difference_words(each: Difference) -> str:
     unit = f" {variable.unit}" if each.column == "value" and variable.unit else ""
     found = f"{quoted(each.found)}{unit}" if each.found else "nothing"
     where = "  ".join([*parts, variable.name])
-    return f"row {each.row}, column {each.column}: expected {quoted(each.expected)}, found {found}: {where}"
+    of_sheet = f"row {each.row} of the sheet, column {each.column}"
+    return f"{of_sheet}: expected {quoted(each.expected)}, found {found}: {where}"
 
 
 def last_line(checked: Checked, compared: Compared) -> str:
     """How many cells differ, and what was compared."""
     count, path = len(compared.differences), clean(compared.path)
     parts = lacking(checked)
-    parts += [f"{compared.refused} rows of the sheet about them not compared"] if compared.refused else []
-    said = f"differences {count}; compared: {compared.rows - compared.refused} rows of {path}"
+    parts += [f"{counted(compared.refused, 'row')} of the sheet about them not compared"] if compared.refused else []
+    said = f"differences {count}; compared: {counted(compared.rows - compared.refused, 'row')} of {path}"
     left = compared.variables - compared.seen
     said += f"; not in the sheet: {left} of {compared.variables} variables" if left else ""
     return f"INCOMPLETE: {', '.join(parts)}; {said}" if parts else said

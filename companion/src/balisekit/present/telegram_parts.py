@@ -7,7 +7,7 @@ from typing import Collection, Dict, Hashable, List, Optional, Sequence, Tuple
 
 from balisekit.drawing.svg import escaped
 from balisekit.etcs.places import Here
-from balisekit.etcs.variables import WORDS, Around, Form, in_order, value_texts
+from balisekit.etcs.variables import Around, Form, in_order, value_texts, words_of
 from balisekit.present.telegram_text import LABEL_WIDTH, head_text, packet_text
 from balisekit.tables.names import short_ordinal
 
@@ -38,7 +38,7 @@ class Said:
             return None
         known = self._header
         others = [key for key, value in form.items() if known.get(key) != value and key != "packets"]
-        if form.keys() != known.keys() or len(others) > OTHER or not all(key in WORDS for key in others):
+        if form.keys() != known.keys() or len(others) > OTHER or not all(map(words_of, others)):
             return None
         but = " and ".join(value_texts(in_order(others), form, Around()))
         counter = [key for key in form if key == "m_mcount"]

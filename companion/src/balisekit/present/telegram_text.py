@@ -13,7 +13,7 @@ from balisekit.etcs.geometry import Kilometres
 from balisekit.etcs.holes import Holes, Kept, Pattern
 from balisekit.etcs.places import Here
 from balisekit.etcs.raw_packets import content_of, with_content
-from balisekit.etcs.variables import LABELS, WORDS, Around, Form, Values, in_order, value_texts
+from balisekit.etcs.variables import Around, Form, Values, in_order, label_of, value_texts, words_of
 from balisekit.tables.names import short_ordinal
 
 WIDTH = 118
@@ -95,7 +95,7 @@ def _steps(keys: Tuple[str, ...]) -> List[Tuple[Tuple[str, ...], str]]:
     """
     steps: List[Tuple[Tuple[str, ...], str]] = []
     for key in in_order(keys):
-        if key not in WORDS:
+        if words_of(key) is None:
             steps.append(((), key))
         elif key == END_SECTION or not steps or steps[-1][1]:
             steps.append(((key,), ""))
@@ -124,7 +124,7 @@ class _Lines:
 
     def part(self, part: str, depth: int, form: Values, path: str, around: Around) -> None:
         """The lines of a part of an object."""
-        name, value, where = LABELS.get(part, part), form[part], f"{path}/{part}"
+        name, value, where = label_of(part), form[part], f"{path}/{part}"
         if isinstance(value, list):
             for place, item in enumerate(value):
                 item = item if isinstance(item, dict) else {name: item}

@@ -30,6 +30,7 @@ from typing import (
 )
 
 from balisekit.errors import TableError, TableErrors, faults_of
+from balisekit.expressions import expression
 from balisekit.io import inputs
 from balisekit.io.csv_writing import plain
 from balisekit.rules import links, meaning, track_plan
@@ -38,7 +39,7 @@ from balisekit.rules.discovery import ADDED, ADDED_NAME, first_to_last, letter_o
 from balisekit.rules.facts import place
 from balisekit.rules.rule import Remark, Rule
 from balisekit.tables import csv as csv_file
-from balisekit.tables.cells import headings
+from balisekit.tables.cells import headings, is_error
 from balisekit.tables.headings import Headings, look_at_cells
 from balisekit.tables.model import Group, Message, Row
 from balisekit.tables.names import BLANK, clean
@@ -67,6 +68,8 @@ UNNAMED = "\0"
 EARLIEST = datetime.date(2000, 1, 1)
 ONE_DAY = datetime.timedelta(days=1)
 """How much later than the day of the run, in universal time, the day of a signature may be."""
+LISTED = ("X7",)
+"""The rules that remark on what only the track plan has. An entry has its name as aspect, and no identity."""
 ONE_TELEGRAM = ("F1", "F4", "F6", "F9", "L1", "L2", "L3", "L5", "L6", "L9")
 """The findings and remarks about one telegram only."""
 OF_ROWS = ("E", "X", ADDED)
@@ -75,17 +78,14 @@ APART = 16
 """F16 rests on which aspect has which telegram."""
 ALL_ASPECTS = ("F3", "F14", "F15", "F16")
 """The findings that compare aspects or groups. The others are about all telegrams of an aspect."""
-OWN_ON_CORRECT_DATA = (name for name, rule in RULES.items() if rule.has_correct_data)
-ON_CORRECT_DATA = ("F6", "F9", "F10", "F11", "F12", "F13", "F14", "F16", *OWN_ON_CORRECT_DATA)
-"""The rules of the table of findings on correct data in docs/findings.md, and those whose pages name correct data."""
-NEVER_CORRECT = frozenset({*OF_PROGRAM, *RULES}.difference(ON_CORRECT_DATA))
-"""The rules that no correct data gets."""
-ROW_NUMBERS = re.compile(r"\brow \d+|\brows \d+(?:(?: to |, | and )\d+)*")
+ON_CORRECT_DATA = ("F6", "F9", "F10", "F11", "F12", "F13", "F14", "F16")
+"""The rules of the table of findings on correct data in docs/findings.md."""
+ROW_NUMBERS = expression(r"\brow \d+|\brows \d+(?:(?: to |, | and )\d+)*")
 """Numbers of rows in a sentence: a row that is added elsewhere changes them."""
-LINE_NUMBER = re.compile(r"\bline \d+")
+LINE_NUMBER = expression(r"\bline \d+")
 """That of a message, whose text is covered."""
-ANY_NUMBER = re.compile(r"[+-]?\d(?:[\d.,]*\d)?")
-QUOTED, OF_ASPECT = re.compile('"[^"]*"'), re.compile('aspect ("[^"]*")')
+ANY_NUMBER = expression(r"[+-]?\d(?:[\d.,]*\d)?")
+QUOTED, OF_ASPECT = expression('"[^"]*"'), expression('aspect ("[^"]*")')
 """The names in the sentence of a remark, and those of aspects in the statement of a finding."""
 Key = Tuple[str, ...]
 Item = Union[Place, Remark]
@@ -168,7 +168,7 @@ class Entries(NamedTuple):
     path: str
     sha256: str
     entries: Tuple[Acceptance, ...]
-    never: Collection[str] = NEVER_CORRECT
+    never: Collection[str]
     """The rules that no correct data gets."""
 
 
@@ -218,10 +218,16 @@ def read(path: str, added: Iterable[Rule] = ()) -> Entries:
 
     `added` are rules that the user adds. An entry for another rule of such a name is for a rule that is not applied.
     """
-    file, never = inputs.read(path), NEVER_CORRECT | {rule.name for rule in added if not rule.has_correct_data}
+    file, never = inputs.read(path), never_correct(added)
     with faults_of(path):
         rows = csv_file.read(file.content, Headings(COLUMNS, NEEDED)).rows
         return Entries(path, file.sha256, _entries(rows, never), never)
+
+
+def never_correct(added: Iterable[Rule] = ()) -> Collection[str]:
+    """The rules that no correct data gets: of the others, the pages name correct data."""
+    own = (rule.name for rule in (*RULES.values(), *added) if not rule.has_correct_data)
+    return {*OF_PROGRAM, *own}.difference(ON_CORRECT_DATA)
 
 
 def _entries(rows: Sequence[Sequence[str]], never: Collection[str]) -> Tuple[Acceptance, ...]:
@@ -255,8 +261,11 @@ def _entry(number: int, places: Mapping[str, int], cells: Sequence[str], never: 
     for name, value in values.items():
         if "\n" in value or "\r" in value:
             raise TableError("the cell contains a line end", column=name)
+        if is_error(value):
+            raise TableError(f"{value} is an error of the spreadsheet: its formula failed", column=name)
     key = tuple(clean(_value(name, values[name])) for name in FIELDS)
-    if {"", ANY} & set(key[1:3]) and key[3] in ("", ANY):
+    is_listed = key[0] in LISTED and key[1:4] == ("", "", "") and key[4] not in ("", ANY)
+    if {"", ANY} & set(key[1:3]) and key[3] in ("", ANY) and not is_listed:
         why = "an entry is about one group, by nid_c and nid_bg, or about one message, by its name"
         raise TableError(why, column="message" if key[1:3] == ("", "") else "nid_c")
     dates = _date("date", values["date"]), _date("until", values["until"])
@@ -335,7 +344,7 @@ def _identity(remark: Remark) -> Tuple[str, str]:
 
 def _place_of(remark: Remark) -> Tuple[str, str, str, str]:
     """Aspect, balise, packet and direction of a remark."""
-    where, aspect, balise = remark.location, "", ""
+    where, aspect, balise = remark.location, clean(remark.location.listed), ""
     if where.row is not None and where.group is not None:
         aspect = "" if where.row.aspect == ANY else clean(where.row.aspect)
         balise = str(where.group.group.places[where.row.number])

@@ -1,110 +1,22 @@
-"""Kilometres and places along a track: where the kilometres jump, the places do not. A CSV file has the jumps.
-
-A place is a whole number of decimetres along the track, counted as the kilometres of its beginning do. Kilometres that
-are finer than a decimetre are rounded.
-"""
+"""A CSV file that states where the kilometres of a track jump. `tables/chainage.py` has what follows for places."""
 from __future__ import annotations
 
 from decimal import Decimal
-from typing import Dict, Iterator, List, Mapping, NamedTuple, Optional, Sequence, Tuple
+from typing import Dict, Iterator, Mapping, Sequence, Tuple
 
 from balisekit.errors import TableError, TableErrors, faults_of
-from balisekit.etcs.geometry import kilometre_of
 from balisekit.io import inputs
 from balisekit.io.csv_writing import plain
 from balisekit.tables import csv as csv_file, decimal_commas, reader
 from balisekit.tables.beside import SWALLOWED
 from balisekit.tables.cells import LINE_END, Sheet
+from balisekit.tables.chainage import Chainage, Jump, look_at
 from balisekit.tables.headings import Headings, alike, compared, look_at_cells
-from balisekit.tables.names import clean
 
-DECIMETRES = Decimal(10_000)
-"""In a kilometre."""
+__all__ = ["Chainage", "Jump", "look_at", "read_jumps"]
 COLUMNS = ("km", "km_after", "track")
 """Of a file of jumps, which has a line for each."""
 NEEDED = COLUMNS[:2]
-
-
-class Jump(NamedTuple):
-    """A jump of the kilometres: in the direction in which they rise, `before` is followed by `after`."""
-
-    before: Decimal
-    after: Decimal
-    track: str = ""
-
-    def __str__(self) -> str:
-        of_track = f" of track {clean(self.track)}" if self.track else " without a track"
-        return f"the jump from km {self.before} to km {self.after}{of_track}"
-
-
-def look_at(jumps: Sequence[Jump]) -> None:
-    """Raises TableError for two jumps of a track that leave out or repeat the same kilometres: they contradict."""
-    known: Dict[str, List[Jump]] = {}
-    for jump in sorted(jumps, key=lambda each: min(each.before, each.after)):
-        known.setdefault(clean(jump.track), []).append(jump)
-    for own in known.values():
-        for one, other in zip(own, own[1:]):
-            if min(other.before, other.after) < max(one.before, one.after) or one.before == other.before:
-                raise TableError(f"{one} and {other} contradict each other")
-
-
-def decimetres(km: Decimal) -> int:
-    """A kilometre in whole decimetres."""
-    return round(km * DECIMETRES)
-
-
-class Chainage(NamedTuple):
-    """The kilometres of one track, with their jumps in the order of the kilometres."""
-
-    jumps: Tuple[Tuple[int, int], ...] = ()
-    """`before` and `after` in decimetres."""
-
-    @classmethod
-    def of(cls, jumps: Sequence[Jump], track: str) -> Chainage:
-        """The kilometres of a track with those of the jumps that are on it, each once if the plan states it too."""
-        own = {(decimetres(jump.before), decimetres(jump.after)) for jump in jumps if clean(jump.track) == clean(track)}
-        return cls(tuple(sorted(own)))
-
-    def place(self, km: Optional[Decimal]) -> Optional[int]:
-        """The place of a kilometre. It is None for one that is in a gap of the kilometres, or that is there twice."""
-        if km is None:
-            return None
-        at, shift = decimetres(km), 0
-        for before, after in self.jumps:
-            if before < at < after or after <= at <= before:
-                return None
-            shift += before - after if at >= max(before, after) else 0
-        return at + shift
-
-    def places(self, km: Decimal) -> Sequence[int]:
-        """All places of a kilometre: one that the kilometres repeat has several, and one in a gap has none."""
-        at, shift, found = decimetres(km), 0, []
-        begin: Optional[int] = None
-        for before, after in self.jumps:
-            if (begin is None or begin <= at) and at <= before:
-                found.append(at + shift)
-            shift, begin = shift + before - after, after
-        if begin is None or begin <= at:
-            found.append(at + shift)
-        return sorted(set(found))
-
-    def words(self, place: int) -> str:
-        """The kilometre of a place as it is written."""
-        return kilometre_of(self._at(place))
-
-    def kilometre(self, place: int) -> Decimal:
-        """The kilometre of a place, with as many decimals as it is written with."""
-        at = self._at(place)
-        return Decimal(at).scaleb(-4) if at % 10 else Decimal(at // 10).scaleb(-3)
-
-    def _at(self, place: int) -> int:
-        """The kilometre of a place in decimetres."""
-        shift = 0
-        for before, after in self.jumps:
-            if place <= before + shift:
-                break
-            shift += before - after
-        return place - shift
 
 
 def read_jumps(path: str) -> Tuple[Jump, ...]:

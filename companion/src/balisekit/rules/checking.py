@@ -6,12 +6,12 @@ import os
 from array import array
 from dataclasses import dataclass, replace
 from functools import cached_property, lru_cache, partial
-from tempfile import TemporaryFile
-from typing import Dict, Iterable, Iterator, List, Mapping, NamedTuple, Optional, Sequence, Set, Tuple, TypeVar
+from typing import Dict, Iterable, Iterator, List, Mapping, NamedTuple, Optional, Sequence, Set, Tuple, TypeVar, Union
 
 from balisekit.engine.grammar import Finding, Refusal, Verdict
 from balisekit.engine.program import Program, Record, Report
 from balisekit.engine.records import Form, kept_as_bits
+from balisekit.engine.run import temporary_file
 from balisekit.errors import NoAnswer
 from balisekit.etcs.places import Identities
 from balisekit.rules.findings_on_correct_data import row_of
@@ -26,7 +26,7 @@ GREATEST_REFUSED = 10_000
 """After this many refused telegrams the others are not tried."""
 NOT_TRIED = f"not tried after {GREATEST_REFUSED:,} refused ones; --all tries them"
 LEFT_OUT = "another telegram of the group was refused or not tried"
-ALL_HELP = f"continue after {GREATEST_REFUSED:,} refused telegrams or messages"
+ALL_HELP = f"continue after {GREATEST_REFUSED:,} refused telegrams or messages, and list all that was not compared"
 ENCODE = json.JSONEncoder().encode
 Raw = Dict[Tuple[int, bool], List[int]]
 """The rows, or the lines of a file of messages, by packets that the program keeps as bits: by NID_PACKET, and whether
@@ -45,7 +45,7 @@ class _Kept:
     """Records in a temporary file, by the number of their rows. In memory each process that reads one would copy it."""
 
     def __init__(self, decoded: Iterable[Tuple[Row, Record]], greatest: int) -> None:
-        self._file = TemporaryFile()
+        self._file = temporary_file()
         self._begins, self._ends = (array("Q", [0]) * (greatest + 1) for _ in range(2))
         for row, record in decoded:
             self._begins[row.number] = self._file.tell()
@@ -65,13 +65,19 @@ class Telegrams(Mapping[int, Form]):
     they are to be kept, and their lines of JSON are kept: the objects of them all take much memory.
     """
 
-    def __init__(self, program: Program, rows: Sequence[Row]) -> None:
-        self._program = program
+    def __init__(self, program: Program, rows: Sequence[Row], known: Mapping[str, Record] = {}) -> None:
+        """`known` has records of telegrams that were decoded before, by their digits."""
+        self._program, self._known = program, known
         self._rows = {row.number: row for row in rows}
         self._kept: Optional[_Kept] = None
         self._identities: Dict[int, Tuple[int, int]] = {}
         self.raw: Optional[Raw] = None
         """The packets that are kept as bits, once all telegrams have been decoded."""
+
+    @cached_property
+    def records(self) -> Mapping[str, Record]:
+        """The records of all telegrams, by their digits."""
+        return {row.telegram: record for row, record in self.decoded()}
 
     def keep(self) -> _Kept:
         """The records of all telegrams, which are decoded once for those that ask for them several times."""
@@ -86,7 +92,7 @@ class Telegrams(Mapping[int, Form]):
             yield from zip(rows, map(self._kept.__getitem__, [row.number for row in rows]))
             return
         raw: Raw = {}
-        for row, answer in zip(rows, self._program.decode([row.telegram for row in rows])):
+        for row, answer in zip(rows, _decoded(self._program, rows, self._known)):
             if isinstance(answer, Refusal):
                 raise self._program.no_answer("decode", f"it refuses what it has read: {answer.line}")
             note_raw(raw, row.number, answer)
@@ -123,6 +129,16 @@ class Telegrams(Mapping[int, Form]):
 
     def __contains__(self, number: object) -> bool:
         return number in self._rows
+
+
+def _decoded(program: Program, rows: Sequence[Row], known: Mapping[str, Record]) -> Iterator[Union[Record, Refusal]]:
+    """What the program says of each of these telegrams. Those whose records are known are not decoded again."""
+    if not known:
+        yield from program.decode([row.telegram for row in rows])
+        return
+    new = iter(program.decode([row.telegram for row in rows if row.telegram not in known]))
+    for row in rows:
+        yield known[row.telegram] if row.telegram in known else next(new)
 
 
 class Refused(NamedTuple):
@@ -266,17 +282,21 @@ def check(
     messages: Optional[Messages] = None,
     by_position: bool = False,
     everything: bool = False,
+    known: Mapping[str, Record] = {},
 ) -> Checked:
     """The program's report on the table, or on what is left of it without the telegrams and messages that it refuses.
 
-    After 10,000 refused telegrams or messages the others are not tried, unless `everything` is asked for.
+    After 10,000 refused telegrams or messages the others are not tried, unless `everything` is asked for. Telegrams
+    whose records are `known` by their digits are not decoded again.
     """
     radio = messages.messages if messages else ()
     report = None if by_position else program.check(document(table.groups, radio))
     if isinstance(report, Report):
         read = tuple(map(AcceptedMessage, radio, program.readable_messages([message.text for message in radio])))
-        return _with(report, Checked(program, table, messages, Telegrams(program, table.rows), table.groups, read))
-    accepted, refused = _try_rows(program, table.rows, everything)
+        return _with(
+            report, Checked(program, table, messages, Telegrams(program, table.rows, known), table.groups, read)
+        )
+    accepted, refused = _try_rows(program, table.rows, everything, known)
     left_out, kept = _sort_out(table.groups, accepted, {one.row.number for one in refused})
     if by_position:
         kept = _by_position(kept, accepted)
@@ -328,17 +348,19 @@ def greatest_refused(everything: bool) -> Optional[int]:
     return None if everything else GREATEST_REFUSED
 
 
-def _try_rows(program: Program, rows: Sequence[Row], everything: bool) -> Tuple[Telegrams, Tuple[Refused, ...]]:
+def _try_rows(
+    program: Program, rows: Sequence[Row], everything: bool, known: Mapping[str, Record]
+) -> Tuple[Telegrams, Tuple[Refused, ...]]:
     accepted: List[Row] = []
     refused: List[Refused] = []
     raw: Raw = {}
-    for index, answer in enumerate(until_too_many(program.decode([row.telegram for row in rows]), everything)):
+    for index, answer in enumerate(until_too_many(_decoded(program, rows, known), everything)):
         if isinstance(answer, Refusal):
             refused.append(Refused(rows[index], answer, rows[index + 1 - (answer.number or 1)].number))
         else:
             accepted.append(rows[index])
             note_raw(raw, rows[index].number, answer)
-    telegrams = Telegrams(program, accepted)
+    telegrams = Telegrams(program, accepted, known)
     telegrams.raw = raw
     return telegrams, tuple(refused)
 

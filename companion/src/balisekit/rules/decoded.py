@@ -9,7 +9,7 @@ from __future__ import annotations
 from bisect import bisect_left
 from collections import defaultdict
 from dataclasses import dataclass, field
-from decimal import ROUND_CEILING, Decimal
+from decimal import Decimal
 from functools import cached_property, wraps
 from itertools import accumulate
 from typing import Callable, Dict, Iterable, Iterator, List, Mapping, Optional, Sequence, Set, Tuple, TypeVar, Union
@@ -17,16 +17,13 @@ from weakref import WeakKeyDictionary
 
 from balisekit.etcs.geometry import DIRECTIONS, place_and_direction
 from balisekit.etcs.variables import Form, unit_dm
-from balisekit.rules.chainage import Chainage, Jump
 from balisekit.rules.chains import Chains, chains_of, take_directions
 from balisekit.rules.location import NOT_KNOWN, BaliseGroup, Identity
 from balisekit.rules.passages import GroupData, Passage, passage_of
 from balisekit.rules.telegrams import LINKING, Link, Packet, Telegram, holding, packets_of_message
+from balisekit.tables.chainage import Chainage, Jump, resolution_of, tolerance_of_lengths as tolerance_of_lengths
 from balisekit.tables.model import Group, Message
 
-METRES = 3
-"""How many decimals a kilometre has that is written to the metre."""
-METRE = Decimal(1).scaleb(-METRES)
 Owner = Union[GroupData, Passage]
 """The group, or the message, that sends a packet."""
 Made = TypeVar("Made")
@@ -87,7 +84,9 @@ class Decoded:
         """Each packet with this NID_PACKET once, and who sends it: those of groups, then those of messages."""
         for data in self.senders.get(number, ()):
             for telegram in data.telegrams.values():
-                yield from ((data, packet) for packet in telegram.packets if packet.number == number)
+                for packet in telegram.packets:
+                    if packet.number == number:
+                        yield data, packet
         seen: Set[int] = set()
         for passage in self.messages:
             reference = [passage.reference] if passage.reference else []
@@ -158,14 +157,6 @@ def once(make: Callable[[Decoded], Made]) -> Callable[[Decoded], Made]:
     return made_once
 
 
-def tolerance_of_lengths(options_tolerance: Decimal, *parts: int) -> int:
-    """By how many decimetres lengths may differ: the user's tolerance and these parts.
-
-    `allowance` of `telegrams` has the part of a packet.
-    """
-    return int((options_tolerance * 10).to_integral_value(ROUND_CEILING)) + sum(parts)
-
-
 def decode(
     groups: Sequence[Group],
     telegrams: Iterable[Telegram],
@@ -184,7 +175,9 @@ def decode(
         chainage = chainages.get(known.track) or chainages.setdefault(known.track, Chainage.of(jumps, known.track))
         known.place = chainage.place(known.km)
         made.append(GroupData(known, own))
-    decoded = Decoded(made, [], chainages, resolution_of([data.group for data in made]))
+    decoded = Decoded(
+        made, [], chainages, resolution_of(row.km for each in groups for row in each.each_row if row.km is not None)
+    )
     links = _Links(decoded)
     for telegram in (telegram for own in by_group.values() for telegram in own.values() if telegram.packets):
         links.put_into(telegram.packets, telegram.header.nid_c)
@@ -250,13 +243,3 @@ def _of_message(decoded: Decoded, links: _Links, message: Message, form: Form) -
     for direction, own in zip(DIRECTIONS, holding(packets)):
         if own:
             yield passage_of(group, "", direction, own, message)
-
-
-def resolution_of(groups: Sequence[BaliseGroup]) -> int:
-    """One unit of the last decimal that a kilometre of the table has, and at most 1 m.
-
-    A spreadsheet stores 11.100 as 11.1, so fewer decimals than three do not show that the kilometres are rounded.
-    """
-    known = (row.km for each in groups for row in each.group.each_row if row.km is not None)
-    others = (km for km in known if not km.same_quantum(METRE))  # (which takes less time than `as_tuple`)
-    return 1 if any(int(km.as_tuple().exponent) < -METRES for km in others) else 10

@@ -70,16 +70,16 @@ FAMILIES: Mapping[str, Family] = {
         "remarks on what the data mean, by balisekit's own rules, not proved",
         "remarks",
         meaning.RULES,
-        meaning.OF_PLACES.notes,
-        passed_over=meaning.OF_PLACES.find,
+        meaning.notes_on,
+        passed_over=meaning.passed_over,
     ),
     "X": Family(
         "X",
         f"track plan, by balisekit's own rules {first_to_last(track_plan.RULES)}, not proved",
         "track plan",
         track_plan.RULES,
-        track_plan.OF_PLACES.notes,
-        passed_over=track_plan.OF_PLACES.find,
+        track_plan.notes_on,
+        passed_over=track_plan.passed_over,
     ),
     ADDED: Family(ADDED, "added rules, not balisekit's, and not proved", "added rules"),
 }
@@ -131,6 +131,8 @@ class Outcome:
     """The files and packages of [check] rules_from that --rules-from replaces."""
     outside: Sequence[str] = ()
     """The rules that somebody has asked for by name, although `--only` leaves out their family."""
+    with_all: bool = False
+    """Whether somebody has asked for all that was not looked at."""
 
     def __repr__(self) -> str:
         return f"<Outcome of {self.checked.table.path}: status {self.status}, {len(self.entries)} entries>"
@@ -270,22 +272,20 @@ def _able(checked: Checked, asked: Sequence[Family]) -> Sequence[Family]:
     return asked if has_kilometres else [_without_kilometres(family) for family in asked]
 
 
-OF_ITS_ASPECT = frozenset({"stop aspect", "earlier group", "default aspect", "one controlled balise"})
-"""The rows of the table of findings on correct data that rest on what the aspect is."""
-
-
 def _without_doubtful(checked: Checked, remarks: Iterable[Remark]) -> Checked:
-    """The same. No finding is called correct data if a remark is about the aspect or the telegram that it rests on."""
-    doubted = {row for remark in remarks if remark.rule[0] in DOUBTING for row in _own_rows(remark)}
-    if doubted.isdisjoint(row for place in checked.findings if place.correct for row in _rows_of_aspect(place)):
+    """The same. No finding is called correct data if a remark is about its aspect, its telegram or its message."""
+    doubting = [remark for remark in remarks if remark.rule[0] in DOUBTING]
+    rows = {row for remark in doubting for row in _own_rows(remark)}
+    messages = {where.message.number for remark in doubting for where in remark.everywhere if where.message}
+
+    def is_doubted(place: Place) -> bool:
+        is_said = place.message is not None and place.message.number in messages
+        return bool(place.correct) and (is_said or not rows.isdisjoint(_rows_of_aspect(place)))
+
+    if not any(map(is_doubted, checked.findings)):
         return checked
-    findings = tuple(
-        place._replace(correct="")
-        if place.correct in OF_ITS_ASPECT and not doubted.isdisjoint(_rows_of_aspect(place))
-        else place
-        for place in checked.findings
-    )
-    return replace(checked, findings=findings)
+    findings = (place._replace(correct="") if is_doubted(place) else place for place in checked.findings)
+    return replace(checked, findings=tuple(findings))
 
 
 def _own_rows(remark: Remark) -> Sequence[int]:
@@ -294,11 +294,12 @@ def _own_rows(remark: Remark) -> Sequence[int]:
 
 
 def _rows_of_aspect(place: Place) -> Iterator[int]:
-    """The rows that only the aspect of a finding has. A finding of the whole group is about all such rows."""
+    """Its own row, and those that only its aspect has. A finding of the whole group is about all such rows."""
+    yield from [place.row.number] if place.row else []
     aspects = place.group.aspects if place.group else ()
     number = place.finding.aspect
     some = aspects if number is None else aspects[number : number + 1]
-    return (row.number for aspect in some for row in aspect.rows if row.aspect != EVERY)
+    yield from (row.number for aspect in some for row in aspect.rows if row.aspect != EVERY)
 
 
 def _judged_again(checked: Checked, asked: Sequence[Family], options: Options, table: Table) -> Iterator[Answer]:
@@ -307,7 +308,8 @@ def _judged_again(checked: Checked, asked: Sequence[Family], options: Options, t
     Nobody asks for the rest of an answer that has a new entry. The program's findings may rest on remarks. Added rules
     see no corrected table.
     """
-    made = check(checked.program, table, checked.messages, table.reading.by_position)
+    known = checked.accepted.records
+    made = check(checked.program, table, checked.messages, table.reading.by_position, known=known)
     yield Answer(refused=_refused(made))
     line = Line.of(made, options.jumps)
     remarks: List[Remark] = []
@@ -319,7 +321,8 @@ def _judged_again(checked: Checked, asked: Sequence[Family], options: Options, t
             yield Answer(entries(_without_doubtful(made, remarks)))
         for rule, result in results_of(line, options, family.rules):
             remarks += result.found
-            yield Answer(list(map(entry_of_remark, result.found)), {rule.name: result.skipped})
+            reasons = {(rule.name, why): count for why, count in result.not_looked_at.items()}
+            yield Answer(list(map(entry_of_remark, result.found)), {rule.name: result.skipped}, reasons=reasons)
 
 
 def _refused(checked: Checked) -> int:
@@ -334,8 +337,10 @@ def _with_causes(checked: Checked, parts: Sequence[Part], again: Again, options:
     line = next((part.applied.line for part in parts if part.applied), None)
     if not still_open or line is None:
         return list(parts)
-    skipped = {rule.name: each.skipped for part in parts if part.applied for rule, each in part.applied.results.items()}
-    before = Answer([entry for part in own for entry in part.entries], skipped, _refused(checked))
+    results = [each for part in parts if part.applied for each in part.applied.results.items()]
+    skipped = {rule.name: each.skipped for rule, each in results}
+    reasons = {(rule.name, why): count for rule, each in results for why, count in each.not_looked_at.items()}
+    before = Answer([entry for part in own for entry in part.entries], skipped, _refused(checked), reasons)
     found = explained(Evidence(checked, line, options, still_open), before, again, SUGGESTIONS)
     made = [_standing_for(checked, *each) for each in found]
     line.for_pictures()
@@ -351,13 +356,14 @@ def _with_causes_of(part: Part, made: Sequence[Entry], folded: AbstractSet[int])
 
 
 def _standing_for(checked: Checked, correction: Correction, entries: Sequence[Entry]) -> Entry:
-    """The entry for a correction, which stands for the entries that it explains. It has the rule of the first one.
+    """The entry for a correction, which stands for the entries that it explains.
 
+    It has the rule that the correction names, or that of the first entry.
     If only the place is known, it is the first entry there, and says without what all of them are gone.
     """
     numbers = {row for each in entries for row in (*each.rows, *each.other_rows)}
     quoted = {id(place) for each in entries for place in each.findings}
-    first = entries[0]
+    first = next((each for each in entries if each.rule == correction.rule), entries[0])
     row = correction.group.row(correction.rows[0])
     made = first._replace(
         sentence=correction.sentence,

@@ -9,7 +9,20 @@ from dataclasses import dataclass, field
 from decimal import Decimal
 from functools import cached_property
 from itertools import accumulate
-from typing import AbstractSet, Dict, FrozenSet, Iterator, List, Mapping, NamedTuple, Optional, Sequence, Tuple, Union
+from typing import (
+    AbstractSet,
+    Dict,
+    FrozenSet,
+    Iterator,
+    List,
+    Mapping,
+    NamedTuple,
+    Optional,
+    Sequence,
+    Set,
+    Tuple,
+    Union,
+)
 
 from balisekit.engine.grammar import Finding
 from balisekit.engine.program import Record
@@ -208,6 +221,24 @@ class Line:
     def places(self) -> Sequence[Optional[int]]:
         """The place of each group along its track in decimetres, in the order of the table, by the jumps."""
         return [group.place for group in self.groups]
+
+    @cached_property
+    def trackless(self) -> Sequence[BaliseGroup]:
+        """The groups without a track, if other groups have one: no rule compares the kilometres of the two."""
+        without = [group for group in self.groups if not group.track]
+        return without if self.along and len(without) < len(self.groups) else []
+
+    @cached_property
+    def cut_off(self) -> AbstractSet[int]:
+        """The numbers of groups without a track all of whose links lead to or from groups that have one."""
+        met: Set[int] = set()
+        apart: Set[int] = set()
+        for chain in self.chains if self.trackless else ():
+            named = [chain.sender, *(link.target for link in chain.links)]
+            for one, other in [*zip(named, named[1:]), *((chain.sender, each) for each in named[2:])]:
+                if one and other:
+                    (met if one.track == other.track else apart).update((one.number, other.number))
+        return {group.number for group in self.trackless} & apart - met
 
     @cached_property
     def not_applied(self) -> Sequence[str]:

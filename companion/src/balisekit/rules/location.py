@@ -7,14 +7,16 @@ from typing import NamedTuple, Optional, Tuple
 
 from balisekit.etcs.geometry import NOMINAL, kilometre
 from balisekit.etcs.packets import packet_name
+from balisekit.tables import chainage
 from balisekit.tables.model import Group, Message, Row
 from balisekit.tables.names import clean, describe_balise, describe_group, describe_message, ordinal
 
 NOT_KNOWN = 16_383
 """The NID_BG that says that an identity is not known."""
-NOT_IN_TABLE, ANOTHER_TRACK, NO_KILOMETRE = "not in the table", "another track", "no kilometre"
+NOT_IN_TABLE = "not in the table"
+ANOTHER_TRACK, NO_TRACK = chainage.ANOTHER_TRACK, chainage.NO_TRACK
+NO_KILOMETRE, IN_JUMP = chainage.NO_KILOMETRE, chainage.IN_JUMP
 NO_DIRECTION, BEHIND_POINT = "no direction along the kilometres", "behind a point of the plan"
-IN_JUMP = "a kilometre that a jump leaves out or repeats"
 """Why rules do not compare a place."""
 Identity = Tuple[int, int]
 """NID_C and NID_BG."""
@@ -80,6 +82,8 @@ class Location(NamedTuple):
     """The NID_PACKET of the packet."""
     n_pig: Optional[int] = None
     """That of the balise."""
+    listed: str = ""
+    """What the track plan lists and the table does not have, by its name in the plan. Then there is no group."""
 
     @property
     def order(self) -> Tuple[int, ...]:
@@ -103,7 +107,7 @@ class Location(NamedTuple):
         return words if self.link is None else f"{words}, {ordinal(self.link)} link"
 
     def __str__(self) -> str:
-        parts = []
+        parts = [self.listed] if self.listed else []
         if self.message is not None:
             parts.append(f"message of {describe_message(self.message)}")
         elif self.group is not None:
@@ -116,6 +120,4 @@ def incomparable(one: Optional[BaliseGroup], other: Optional[BaliseGroup]) -> st
     """Why the kilometres of two groups cannot be compared, or nothing."""
     if one is None or other is None:
         return NOT_IN_TABLE
-    if one.km is None or other.km is None:
-        return NO_KILOMETRE
-    return ANOTHER_TRACK if one.track != other.track else ""
+    return chainage.incomparable(one.km, one.track, other.km, other.track)

@@ -84,11 +84,11 @@ class Passage:
 
     def place(self, distance: int) -> Optional[int]:
         """The place at this distance from the group, or None if that is not known."""
-        if self.group is None or self.group.place is None:
-            return None
-        if distance == 0:
-            return self.group.place
-        return None if self.way is None else self.group.place + self.way * distance
+        group = self.group.group if self.group else None
+        if group is None or group.place is None or distance == 0:
+            return group.place if group else None
+        way = group.along(self.direction)
+        return None if way is None else group.place + way * distance
 
     def at(self, packet: Optional[Packet] = None, link: Optional[int] = None) -> Location:
         """Where a packet is, for a remark. Without a packet it is the group, or the message, in this direction."""

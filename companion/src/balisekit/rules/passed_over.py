@@ -1,12 +1,13 @@
 """The groups and messages that rules pass over, because the table does not show where they are along its tracks."""
 from __future__ import annotations
 
-from typing import Callable, Dict, Iterable, Iterator, List, NamedTuple, Union
+from collections import Counter
+from typing import Callable, Dict, Iterable, Iterator, List, NamedTuple, Set, Tuple, Union
 
 from balisekit.rules.line import Line
 from balisekit.rules.location import IN_JUMP, BaliseGroup
 from balisekit.tables.model import Group, Message
-from balisekit.tables.names import clean, describe_message, listed
+from balisekit.tables.names import clean, counted, describe_message, listed
 
 NAMED = 10
 """How many groups and messages with one reason are named. The others are counted."""
@@ -49,16 +50,32 @@ class Rules(NamedTuple):
                 if why:
                     yield PassedOver(message, why)
 
+    def without_track(self, line: Line) -> Iterator[PassedOver]:
+        """The groups that lack a track that others have. Rules may compare those with each other."""
+        yield from (PassedOver(group.group, self._no_track) for group in line.trackless)
+
+    def is_of_track(self, some: PassedOver) -> bool:
+        """Whether it is passed over because it has no track."""
+        return some.why == self._no_track
+
     def notes(self, line: Line) -> Iterator[str]:
         """A note for each reason, with the first groups and messages that it is about."""
         return notes_of(self.find(line))
 
     def _of_group(self, line: Line, group: BaliseGroup) -> str:
         why = self._lacks(group)
-        is_alone = self.others and any(group.says) and len(line.along.get(group.track, ())) == 1 < len(line.along)
-        if why or not is_alone:
+        if why or not (self.others and any(group.says)):
             return why
+        is_alone = len(line.along.get(group.track, ())) == 1 < len(line.along)
+        if not group.track and (is_alone or group.number in line.cut_off):
+            return self._no_track
+        if not is_alone:
+            return ""
         return f"the only group with a kilometre on its track, so {self.others} compare it with no other group"
+
+    @property
+    def _no_track(self) -> str:
+        return f"no track, although other groups have one, so {self.others} compare it with none of these"
 
     def _lacks(self, group: BaliseGroup) -> str:
         if group.place is None:
@@ -70,6 +87,28 @@ class Rules(NamedTuple):
                 "group: write rising or falling in the column nominal"
             )
         return ""
+
+
+def behind_infill(line: Line, is_meant: Callable[[int], bool], who: str) -> Iterator[PassedOver]:
+    """Groups and messages with packets after a packet 136 that no rule compares, by NID_PACKET with their number."""
+    found: Dict[str, Tuple[Union[Group, Message], Counter[int]]] = {}
+    seen: Set[int] = set()
+    for passage in line.decoded.passages:
+        about = passage.message or (passage.group.group.group if passage.group else None)
+        new = [packet for packet in passage.infill if id(packet) not in seen and is_meant(packet.number)]
+        if about and new:
+            seen.update(map(id, new))
+            found.setdefault(about.name, (about, Counter()))[1].update(packet.number for packet in new)
+    for about, counts in found.values():
+        packets = ", ".join(f"{counted(count, 'packet')} {number}" for number, count in sorted(counts.items()))
+        yield PassedOver(about, f"{packets} after a packet 136, of which {who} compare no place")
+
+
+def unlinked(line: Line) -> Iterator[PassedOver]:
+    """The groups with Q_LINK 0 that say anything: no link to them is missed."""
+    for group in line.groups:
+        if group.linked is False and any(group.says):
+            yield PassedOver(group.group, "Q_LINK 0, so L9 and E17 look for no link to the group")
 
 
 def nothing(line: Line) -> Iterator[PassedOver]:

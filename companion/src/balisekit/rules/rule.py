@@ -12,6 +12,7 @@ from enum import IntEnum
 from functools import cached_property
 from typing import (
     TYPE_CHECKING,
+    AbstractSet,
     Callable,
     Dict,
     FrozenSet,
@@ -157,12 +158,16 @@ class Remark(NamedTuple):
     @property
     def others(self) -> Sequence[int]:
         """The rows that it names beside its own."""
+        if not self.also and not self.compared:
+            return ()
         own = {*self.rows, *([self.location.row.number] if self.location.row else [])}
         return sorted({where.row.number for where in (*self.also, *self.compared) if where.row} - own)
 
     @property
     def words(self) -> str:
         """The sentence, and the rows of other groups and the messages that have it too."""
+        if not self.also:
+            return self.sentence
         rows = {where.row.number for where in self.also if where.row} - {*self.rows}
         messages = dict.fromkeys(where.message for where in self.also if where.message)
         names = [f"the message of {describe_message(each)}" for each in messages]
@@ -181,6 +186,8 @@ class Result(NamedTuple):
     """What the user should know beside the remarks, a line each."""
     is_optional: bool = False
     """Whether it is no fault that it has looked at nothing."""
+    usual: AbstractSet[str] = frozenset()
+    """The reasons that sound lines have too: words without `--all` only count them."""
 
     @classmethod
     def of_chains(cls, line: Line, look_at: Callable[[Chain], Iterator[Union[Remark, str, None]]]) -> Result:

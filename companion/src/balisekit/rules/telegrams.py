@@ -16,6 +16,7 @@ from balisekit.etcs.geometry import ELEMENT_KEYS, Site
 from balisekit.etcs.raw_packets import fields_of
 from balisekit.etcs.variables import UNITS, Form
 from balisekit.rules.location import NOT_KNOWN, BaliseGroup, Identity
+from balisekit.tables.chainage import rounding as rounding
 from balisekit.tables.model import Row
 
 LINKING, GRADIENTS, SPEEDS, LEVELS = 5, 21, 27, 41
@@ -215,8 +216,3 @@ def allowance(packet: Packet, lengths: int = 1) -> int:
     It is in whole decimetres, rounded up.
     """
     return rounding(packet.unit, lengths)
-
-
-def rounding(unit: int, lengths: int) -> int:
-    """The same by the unit of the lengths."""
-    return unit + (unit * (lengths - 1) + 1) // 2

@@ -1,18 +1,19 @@
 """Telegrams of a table outside of the column and the rows that are read. None of them is lost without a word."""
 from __future__ import annotations
 
-import re
-import shlex
 from itertools import islice, zip_longest
+from shlex import quote
 from typing import Dict, Iterable, Iterator, List, Mapping, NamedTuple, Sequence, Set, Tuple
 
 from balisekit.errors import TableError, TableErrors
+from balisekit.expressions import expression
 from balisekit.tables.account import Account, NotJudged, elsewhere, of_digits, of_formulas
 from balisekit.tables.cells import GREATEST_NAME, LINE_END, NEEDED, Sheet, digits, kind_and_text
 from balisekit.tables.headings import KILOMETRE, compared, shown
 from balisekit.tables.unread_digits import (
     LEAST_RUN,
     could_hold_telegram,
+    digits_in_rows,
     groups_of,
     has_few_digits,
     has_run_or_large_number,
@@ -30,7 +31,7 @@ SWALLOWED = "is a quote missing, or one too many?"
 HAS_SWALLOWED = f"has line ends, and digits as a telegram has: {SWALLOWED}"
 LEAST_LARGE, LEAST_SPREAD = 5, 39
 """How many characters the shortest large number has, such as 1E+53, and twenty single digits with blanks between."""
-SHORT = re.compile("[0-9A-Fa-f]{4,}")
+SHORT = expression("[0-9A-Fa-f]{4,}")
 """What may be a telegram below a heading, and no number of a column."""
 NOT_READ = "only the column telegram is read"
 OTHER_SHEET = "the sheet is not read: give --sheet if only one sheet is to be judged"
@@ -88,7 +89,9 @@ def unread(sheet: Sheet, place: int, begin: int, places: Mapping[str, int], skip
             rest[at] = ["" if cell in hits else cell for cell in cells] if hits else cells
     if faults:
         raise TableErrors(sorted(faults, key=lambda fault: fault.row or 0))
-    found.possible.update(_shared(rest, begin))
+    shared = _shared(rest, begin)
+    for columns, rows in (*shared.items(), *_below(rest, begin)):
+        found.possible.setdefault(columns, {}).update(rows)
     return found
 
 
@@ -129,6 +132,19 @@ def _shared(columns: Mapping[int, Sequence[str]], begin: int) -> Dict[Tuple[int,
         used.update(at for at, cell in cells if not sizes.isdisjoint(map(size, groups_of(cell))))
     digits_of = {number: possible_digits(text) for number, text in possible.items()}
     return {tuple(sorted(used)): digits_of} if possible else {}
+
+
+def _below(columns: Mapping[int, Sequence[str]], begin: int) -> Iterator[Tuple[Tuple[int, ...], Dict[int, int]]]:
+    """The same for rows that hold a telegram together, one below the other: in one column, or else in all of them."""
+    count = 0
+    for at, cells in columns.items():
+        rows = digits_in_rows(cells)
+        count += len(rows)
+        if rows:
+            yield (at,), {number + begin + 1: size for number, size in rows.items()}
+    rows = digits_in_rows([*map(" ".join, zip(*columns.values()))]) if len(columns) > 1 and not count else {}
+    if rows:
+        yield tuple(columns), {number + begin + 1: size for number, size in rows.items()}
 
 
 def covered_rows(sheet: Sheet, heading: int, begin: int, places: Mapping[str, int]) -> List[str]:
@@ -185,7 +201,7 @@ def of_columns(
     names, asked_for = names_of(headings), compared(skipped)
     for columns in sorted({*found.possible, *((at,) for at in (*found.telegrams, *formulas))}):
         of = [names[at] if at < len(names) else f"column {at + 1}" for at in columns]
-        option, asked = " ".join(f"--skip-column {shlex.quote(name)}" for name in of), of[0].lower() in asked_for
+        option, asked = " ".join(f"--skip-column {quote(name)}" for name in of), of[0].lower() in asked_for
         remedy = "" if columns == (places["group"],) else f": give {option} if they are not to be judged"
         left_out, where = f"{option} leaves them out" if asked else "", (asked, of, sheet.name or None)
         if columns[0] in found.telegrams and len(columns) == 1:
@@ -199,7 +215,7 @@ def of_columns(
 def _of_sheets(sheet: Sheet) -> Iterator[NotJudged]:
     """What could be telegrams in the other sheets of a workbook."""
     asked = sheet.is_chosen
-    left_out = f"--sheet {shlex.quote(sheet.name)} leaves them out" if asked else ""
+    left_out = f"--sheet {quote(sheet.name)} leaves them out" if asked else ""
     for name, (numbers, formulas, possible) in sheet.in_others.items():
         if numbers:
             yield elsewhere(left_out or OTHER_SHEET, numbers, asked, (), name)

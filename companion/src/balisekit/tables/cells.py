@@ -5,6 +5,7 @@ import re
 from typing import Collection, Dict, List, Mapping, NamedTuple, Sequence, Tuple
 
 from balisekit.errors import TableError, TableErrors
+from balisekit.expressions import expression
 
 COLUMNS = ("group", "telegram", "name", "km", "track", "aspect", "balise", "nominal")
 """The headings that are known."""
@@ -13,14 +14,14 @@ GREATEST_NAME = 1000
 """The most characters of a cell that is no telegram, and how many of a heading are shown."""
 BLANKS = " \t\u00a0\u2000-\u200b\u202f\u3000"
 QUOTES = "\"'\u2018\u2019\u201c\u201d\u201e\u00ab\u00bb"
-DIGITS = re.compile("[0-9A-Fa-f]+")
-ERROR = re.compile(r"#[¡¿]?[^\W\d][\w/ ]*[!?]|##+|Loading\.\.\.|[^\W\d_]+\s*:\s*5[0-9]{2}")
+DIGITS = expression("[0-9A-Fa-f]+")
+ERROR = expression(r"#[¡¿]?[^\W\d][\w/ ]*[!?]|##+|Loading\.\.\.|[^\W\d_]+\s*:\s*5[0-9]{2}")
 """What a spreadsheet has in a cell whose formula failed."""
-ERROR_IN_CAPITALS = re.compile(r"#[^\W\d_](?:[^\W\d_]|/)[\w/]*")
+ERROR_IN_CAPITALS = expression(r"#[^\W\d_](?:[^\W\d_]|/)[\w/]*")
 """The same in one language or another, if all its letters are capitals: #N/A, #YOK."""
-PAIRS = re.compile(r"[^:-]{2}(?:([:-])[^:-]{2})(?:\1[^:-]{2})*")
-LINE_END = re.compile("[\r\n\v\f\x1c-\x1e\x85\u2028\u2029]")
-PARTS = re.compile("[,;|\t\r\n\v\f\x1c-\x1e\x85\u2028\u2029]")
+PAIRS = expression(r"[^:-]{2}(?:([:-])[^:-]{2})(?:\1[^:-]{2})*")
+LINE_END = expression("[\r\n\v\f\x1c-\x1e\x85\u2028\u2029]")
+PARTS = expression("[,;|\t\r\n\v\f\x1c-\x1e\x85\u2028\u2029]")
 """What separates cells and rows that a quote has put into one cell."""
 
 COVERED = "a merged cell covers contents of its own, which a spreadsheet does not show: unmerge the cells"

@@ -8,6 +8,7 @@ from itertools import islice
 from typing import Callable, Iterator, List, Sequence, TextIO, Tuple
 
 from balisekit.errors import TableError
+from balisekit.expressions import expression
 from balisekit.tables.cells import Sheet
 from balisekit.tables.encoding import is_plain, text_of
 from balisekit.tables.headings import SEARCHED, Headings
@@ -18,7 +19,7 @@ GREATEST_CELL = 100_000
 """In characters."""
 HEAD = 1 << 20
 """How many characters of a file that is read row by row are searched for its separator."""
-SEPARATOR_LINE = re.compile("sep=.(?:\r\n|\r|\n)", re.IGNORECASE)
+SEPARATOR_LINE = expression("sep=.(?:\r\n|\r|\n)", re.IGNORECASE)
 
 
 def read(content: bytes, headings: Headings = Headings()) -> Sheet:

@@ -1,14 +1,14 @@
 """Decimal commas without quotes, in a file with commas between its cells: the next cell has the metres."""
 from __future__ import annotations
 
-import re
 from itertools import islice
 from typing import List, Mapping, Sequence
 
 from balisekit.errors import TableError
+from balisekit.expressions import expression
 from balisekit.tables.cells import Sheet
 
-WHOLE, DIGITS, METRES = re.compile("[-\u2212]?[0-9]{1,4}"), re.compile("[0-9]{1,6}"), re.compile("[0-9]{3}")
+WHOLE, DIGITS, METRES = expression("[-\u2212]?[0-9]{1,4}"), expression("[0-9]{1,6}"), expression("[0-9]{3}")
 
 
 def faults(sheet: Sheet, begin: int, width: int, places: Mapping[str, int], name: str = "km") -> List[TableError]:

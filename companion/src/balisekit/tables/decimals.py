@@ -5,7 +5,8 @@ Scripts and rules of users can set another precision. It would decide which dist
 from __future__ import annotations
 
 from contextlib import contextmanager
-from decimal import ROUND_HALF_EVEN, Context, DivisionByZero, InvalidOperation, Overflow, localcontext
+from decimal import ROUND_HALF_EVEN, Context, Decimal, DivisionByZero, InvalidOperation, Overflow, localcontext
+from functools import lru_cache
 from typing import Iterator
 
 OWN = Context(
@@ -19,6 +20,12 @@ OWN = Context(
     traps=[InvalidOperation, DivisionByZero, Overflow],
 )
 """As Python has it by default."""
+
+
+@lru_cache(maxsize=1 << 12)
+def whole(number: int) -> Decimal:
+    """A whole number. Remarks have many of few numbers, and each object takes memory."""
+    return Decimal(number)
 
 
 @contextmanager

@@ -2,10 +2,10 @@
 from __future__ import annotations
 
 import codecs
-import re
 from typing import Tuple
 
 from balisekit.errors import TableError
+from balisekit.expressions import expression
 
 ZIPS = (b"PK\x03\x04", b"PK\x05\x06")
 OLD_WORKBOOK = b"\xd0\xcf\x11\xe0"
@@ -15,11 +15,11 @@ TWO_ENCODINGS = "it has two encodings"
 PIECE = 1 << 20
 ZEROS_WITHIN = 100
 """How many bytes are searched for the zeros that show UTF-16 without a mark."""
-ONE_BYTE_EACH = re.compile(rb"(?:[\t\n\r -~]|\xc2?\xa0|\xe2\x80[\x80-\xaf]){40}")
+ONE_BYTE_EACH = expression(rb"(?:[\t\n\r -~]|\xc2?\xa0|\xe2\x80[\x80-\xaf]){40}")
 """What UTF-16 does not have, whose digits have a zero beside them: UTF-8 or Windows-1252, also with wide blanks."""
-SWAPPED = re.compile("\ufffe|[" + "".join(f"\\u{each:02x}00" for each in (9, 10, 13, *range(32, 127), 160)) + "]{20}")
+SWAPPED = expression("\ufffe|[" + "".join(f"\\u{each:02x}00" for each in (9, 10, 13, *range(32, 127), 160)) + "]{20}")
 """UTF-16 whose bytes are in the other order."""
-UTF_8_WITHIN = re.compile(
+UTF_8_WITHIN = expression(
     rb"\xc2[\xa0-\xbf]|\xc3[\x80-\xbf]|\xe2\x80[\x80-\xbf]|\xef\xbb\xbf|(?:[\xc4-\xdf][\x80-\xbf]){4}"
 )
 """Letters and marks of UTF-8 that are no words in Windows-1252, such as "Ã¼"."""

@@ -6,15 +6,16 @@ import re
 from typing import Dict, Iterable, List, Mapping, NamedTuple, Optional, Sequence, Tuple
 
 from balisekit.errors import TableError
+from balisekit.expressions import expression
 from balisekit.tables.cells import COLUMNS, GREATEST_NAME, NEEDED, digits, kind_and_text
 
 SEARCHED = 20
 """How many rows are searched for the headings: a title and a few lines of a form may be above them."""
 ALIKE = 0.75
 """How much of a heading has to be as in a known one to be taken for it."""
-TELEGRAM = re.compile("[0-9A-Fa-f]{20,}")
-KILOMETRE = re.compile(r"-?[0-9]{1,4}(?:[.,][0-9]{1,6}|\+[0-9]{3})?")
-TO_THE_METRE = re.compile("[.,+][0-9]{3}")
+TELEGRAM = expression("[0-9A-Fa-f]{20,}")
+KILOMETRE = expression(r"-?[0-9]{1,4}(?:[.,][0-9]{1,6}|\+[0-9]{3})?")
+TO_THE_METRE = expression("[.,+][0-9]{3}")
 
 
 class Headings(NamedTuple):

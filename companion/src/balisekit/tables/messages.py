@@ -8,6 +8,7 @@ from string import hexdigits
 from typing import Iterator, List
 
 from balisekit.errors import TableError, TableErrors, faults_of
+from balisekit.expressions import expression
 from balisekit.io import inputs
 from balisekit.tables.account import of_rows
 from balisekit.tables.cells import BLANKS, digits
@@ -18,16 +19,16 @@ from balisekit.tables.unread_digits import UUID, could_hold_telegram
 LEAST_DIGITS = 20
 """How many digits the shortest message has: NID_MESSAGE, L_MESSAGE, T_TRAIN, M_ACK and NID_LRBG."""
 DIGITS = frozenset(hexdigits)
-MARK = re.compile(
+MARK = expression(
     r"16#|0[xX]|(?<![^\W_])(?:0|[0-9]{1,2}')[hH](?=[0-9A-Fa-f])"
     r"|[xXhH](?=[\"']?[0-9A-Fa-f]{2})"
     r"|(?<=[0-9A-Fa-f])[hH](?![^\W_])"
 )
 """What tells that digits are hexadecimal, in front of them or behind them: 0x, x'..', \\x, &H, 8'h, 16#, a final h."""
-GROUP = re.compile(r"[0-9A-Fa-f]+|[^\W_]")
+GROUP = expression(r"[0-9A-Fa-f]+|[^\W_]")
 """Digits, or another letter, after which no digits of the same message are."""
 IN_NAME = "after the semicolon are digits as a message has: write one message per line"
-NOTHING = re.compile(rf"[\s{BLANKS}\u00ad\u2060\ufeff]*")
+NOTHING = expression(rf"[\s{BLANKS}\u00ad\u2060\ufeff]*")
 
 
 def read(path: str) -> Messages:

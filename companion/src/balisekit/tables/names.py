@@ -1,17 +1,17 @@
 """Rows, groups and messages by the words of the table, and names that are safe to show."""
 from __future__ import annotations
 
-import re
 from decimal import Decimal
 from typing import Iterable, List, Optional, Sequence, Tuple
 from unicodedata import category
 
+from balisekit.expressions import expression
 from balisekit.tables.model import Group, Message, Row, Table
 
 NAMED = 20
 """The most columns that are passed over, rows or aspects of one kind that are named."""
 ORDINALS = ("first", "second", "third", "fourth", "fifth", "sixth", "seventh", "eighth", "ninth", "tenth")
-BLANK = re.compile("[\u034f\u115f\u1160\u17b4\u17b5\u180b-\u180f\u2800\u3164\ufe00-\ufe0f\uffa0\U000e0100-\U000e01ef]")
+BLANK = expression("[\u034f\u115f\u1160\u17b4\u17b5\u180b-\u180f\u2800\u3164\ufe00-\ufe0f\uffa0\U000e0100-\U000e01ef]")
 """Letters and marks that are invisible."""
 
 
@@ -33,8 +33,10 @@ def counted(count: int, what: str, several: str = "") -> str:
 
 def rows_words(numbers: Iterable[int]) -> str:
     """Rows by their numbers: "row 5", "rows 2 to 5", "rows 3, 5 and 7 to 9"."""
-    runs: List[List[int]] = []
-    for number in sorted(set(numbers)):
+    known, runs = sorted(set(numbers)), []  # type: List[int], List[List[int]]
+    if len(known) == 1:
+        return f"row {known[0]}"
+    for number in known:
         if runs and runs[-1][-1] == number - 1:
             runs[-1].append(number)
         else:
@@ -45,7 +47,7 @@ def rows_words(numbers: Iterable[int]) -> str:
         if len(texts) > NAMED
         else " and ".join([*([", ".join(texts[:-1])] * (len(texts) > 1)), *texts[-1:]])
     )
-    return f"row{'' if len(runs) == 1 and len(runs[0]) == 1 else 's'} {named}"
+    return f"rows {named}"
 
 
 def clean(text: str) -> str:

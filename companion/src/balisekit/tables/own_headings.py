@@ -2,11 +2,11 @@
 from __future__ import annotations
 
 import os
-import re
 import sys
 from typing import Any, Dict, List, Mapping, NamedTuple, Optional, Sequence, Tuple
 
 from balisekit.errors import TableError, faults_of, needed
+from balisekit.expressions import expression
 from balisekit.io import inputs
 from balisekit.tables.cells import COLUMNS, GREATEST_NAME
 from balisekit.tables.headings import Headings, alike
@@ -45,7 +45,7 @@ STATED = {
 """The tables by which a project states something, and the keys of each."""
 GREATEST_FILE = 1_000_000
 """The most bytes that a file of settings can have."""
-LONG_NUMBER, KEY = re.compile("[0-9](?:_?[0-9]){4000}"), re.compile(r"""\s*([A-Za-z0-9_."' -]{1,100}?)\s*=""")
+LONG_NUMBER, KEY = expression("[0-9](?:_?[0-9]){4000}"), expression(r"""\s*([A-Za-z0-9_."' -]{1,100}?)\s*=""")
 """A number that Python does not read, and the key at the beginning of a line."""
 RULES_FROM = "rules_from"
 FILES = {"jumps", "plan"}

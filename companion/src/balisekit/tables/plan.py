@@ -13,14 +13,18 @@ The columns are `kind, km, km_to, track, way, value, name`, in any order:
     a falling one has the opposite.
   - `signal`: none. It is a place at which authorities end: a signal, a marker board or a buffer stop.
   - `aspect`: `v=120 end=1400 overlap=100 release=20`. V_MAIN in km/h; the end of authority in metres from the group;
-    the overlap's length in metres, or `none`; the release speed in km/h, `onboard` or `national`. A key that is missing
-    is not compared.
+    the overlap's length in metres, or `none`; the release speed in km/h, `onboard` or `national`. So are `danger`,
+    `end_start` and `overlap_start`, lengths in metres or `none`; `loa_time`, `end_time` and `overlap_time`, seconds or
+    `none`; and `loa` in km/h. A key that is missing is not compared.
   - `level`: the levels behind the border in the order of priority: `2`, or `2 NTC:7 0` with NID_NTC.
   - `rbc`: the radio block centre behind the border: `NID_C/NID_RBC`.
+  - `group`: `id=352/17 balises=2 linked=yes at=12.300,12.303`. NID_C and NID_BG; how many balises it has; Q_LINK; the
+    kilometres of its balises in the order of N_PIG. `km` is that of the first one, and `way` that of the nominal
+    direction. A key that is missing is not compared.
   - `jump`: none. The kilometres jump from `km` to `km_to`.
   - `point`: none. At it trains of the row's way may leave the track.
 - `name`: of an aspect `SIGNAL/ASPECT`, by the columns `group` and `aspect` of the table, or `SIGNAL` if its one aspect
-  has no name. Of the other kinds it is free.
+  has no name. Of a group it is that of the column `group`. Of the other kinds it is free.
 """
 from __future__ import annotations
 
@@ -36,7 +40,7 @@ from balisekit.tables import csv as csv_file, decimal_commas, plan_values as val
 from balisekit.tables.cells import GREATEST_NAME, Sheet, is_error
 from balisekit.tables.headings import Headings, alike, compared, look_at_cells
 from balisekit.tables.names import clean, kilometre
-from balisekit.tables.plan_values import Terms, Value
+from balisekit.tables.plan_values import GroupTerms, Terms, Value
 from balisekit.tables.reader import head_of, kilometre_of
 
 COLUMNS = ("kind", "km", "km_to", "track", "way", "value", "name")
@@ -54,11 +58,14 @@ READERS: Mapping[str, Optional[Callable[[str], Value]]] = {
     "aspect": values.terms,
     "level": values.levels,
     "rbc": values.rbc,
+    "group": values.group,
     "jump": None,
     "point": None,
 }
 """The kinds, and how the value of each is read. Those without have no value."""
 
+NAMED_KINDS = {"aspect": "an aspect needs a name: SIGNAL/ASPECT", "group": "a group needs its name in the table"}
+"""The kinds whose rows are found by their names, and what is said if there is none."""
 
 Meaning = TypeVar("Meaning")
 Lane = Tuple[str, str, int]
@@ -90,6 +97,12 @@ class PlanRow(NamedTuple):
     def text_value(self) -> str:
         """The value of a level or RBC border."""
         return str(self.value)
+
+    @property
+    def group_terms(self) -> GroupTerms:
+        """The value of a group."""
+        assert isinstance(self.value, GroupTerms)
+        return self.value
 
     @property
     def terms(self) -> Terms:
@@ -187,6 +200,8 @@ def _value_text(row: PlanRow) -> str:
         return values.speed_word(row.number_value)
     if row.kind == "aspect":
         return values.terms_text(row.terms)
+    if row.kind == "group":
+        return values.group_text(row.group_terms)
     return "" if row.value is None else str(row.value)
 
 
@@ -257,8 +272,8 @@ def _row(number: int, cells: Mapping[str, str]) -> PlanRow:
     way = WAYS.get(cells["way"].lower())
     if way is None:
         raise TableError(f"{cells['way'][:40]} is neither rising nor falling", column="way")
-    if kind == "aspect" and not cells["name"]:
-        raise TableError("an aspect needs a name: SIGNAL/ASPECT", column="name")
+    if kind in NAMED_KINDS and not cells["name"]:
+        raise TableError(NAMED_KINDS[kind], column="name")
     km, km_to = _kilometres(kind, cells)
     value = _read("value", lambda text: _value(kind, text), cells)
     return PlanRow(number, kind, km, km_to, clean(cells["track"]), way, value, clean(cells["name"]))
@@ -315,12 +330,12 @@ def _clashes(rows: Sequence[PlanRow]) -> Iterator[TableError]:
                     fault = _clash(*sorted((far, row), key=lambda each: each.number))
                     named.setdefault(fault.row or 0, fault)
                 far = row if (row.km_to or row.km) >= (far.km_to or far.km) else far
-    first: Dict[Tuple[str, int], PlanRow] = {}
-    for row in (row for row in rows if row.kind == "aspect"):
-        for way in (row.way,) if row.way else (1, -1):
-            earlier = first.setdefault((row.name, way), row)
+    first: Dict[Tuple[str, str, int], PlanRow] = {}
+    for row in (row for row in rows if row.kind in NAMED_KINDS):
+        for way in (row.way,) if row.way and row.kind == "aspect" else (1, -1):
+            earlier = first.setdefault((row.kind, row.name, way), row)
             if earlier is not row:
-                why = f"the aspect {row.name} is in row {earlier.number} already"
+                why = f"the {row.kind} {row.name} is in row {earlier.number} already"
                 named.setdefault(row.number, TableError(why, row.number, "name"))
     yield from named.values()
 

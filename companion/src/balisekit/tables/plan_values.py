@@ -3,16 +3,34 @@ from __future__ import annotations
 
 import re
 from decimal import Decimal
-from typing import Callable, Dict, Mapping, Optional, Union
+from typing import Any, Callable, Dict, List, Mapping, NamedTuple, Optional, Tuple, Union
 
 from balisekit.errors import TableError
+from balisekit.expressions import expression
+from balisekit.tables.names import kilometre
 
 Terms = Mapping[str, Optional[int]]
 """What an aspect gives, by the keys of ASPECT_KEYS. None is `none`."""
-Value = Union[int, str, Terms, None]
+
+
+class GroupTerms(NamedTuple):
+    """What a balise group is. What is None, or empty, is not compared."""
+
+    identity: Optional[Tuple[int, int]] = None
+    """NID_C and NID_BG."""
+    balises: Optional[int] = None
+    is_linked: Optional[bool] = None
+    """Whether Q_LINK is 1."""
+    kilometres: Tuple[Decimal, ...] = ()
+    """Those of its balises, in the order of N_PIG."""
+
+
+Value = Union[int, str, Terms, GroupTerms, None]
 STEP = 5
 """Speeds are sent in steps of 5 km/h."""
 GREATEST_SPEED = 600
+GREATEST_TIME = 1022
+"""1023 is sent if there is no time-out."""
 GREATEST_GRADIENT = 254
 """G_A 255 is the end mark."""
 NO_END = "none"
@@ -20,9 +38,12 @@ RELEASE = {"onboard": 126, "national": 127}
 """V_RELEASEOL and V_RELEASEDP that are no speeds: calculated on board, and the national value."""
 LEVEL_WORDS = ("0", "NTC", "1", "2", "3")
 """The levels by M_LEVELTR (SUBSET-026, 7.5.1)."""
-LEVEL = re.compile("[0-3]|NTC:[0-9]{1,3}", re.IGNORECASE)
-RBC = re.compile("([0-9]{1,4})/([0-9]{1,5})")
+LEVEL = expression("[0-3]|NTC:[0-9]{1,3}", re.IGNORECASE)
+RBC = expression("([0-9]{1,4})/([0-9]{1,5})")
 GREATEST_NTC, GREATEST_COUNTRY, GREATEST_RBC = 255, 1023, 16_383
+GREATEST_GROUP, GREATEST_BALISES = 16_382, 8
+LINKED = {"yes": True, "no": False}
+GROUP_KEYS = "id=.., balises=.., linked=.. and at=.."
 
 
 def speed(text: str) -> int:
@@ -52,6 +73,15 @@ def length_or_none(text: str) -> Optional[int]:
     return None if text.lower() == NO_END else length(text)
 
 
+def seconds_or_none(text: str) -> Optional[int]:
+    """A time in seconds, or `none` for no time-out."""
+    if text.lower() == NO_END:
+        return None
+    if not re.fullmatch("[0-9]{1,4}", text) or int(text) > GREATEST_TIME:
+        raise TableError(f"{_shown(text)} is no time: write seconds, at most {GREATEST_TIME}, or none")
+    return int(text)
+
+
 def release(text: str) -> int:
     """A release speed."""
     word = text.lower()
@@ -63,9 +93,17 @@ ASPECT_KEYS: Dict[str, Callable[[str], Optional[int]]] = {
     "end": length,
     "overlap": length_or_none,
     "release": release,
+    "danger": length_or_none,
+    "loa": speed,
+    "loa_time": seconds_or_none,
+    "end_time": seconds_or_none,
+    "end_start": length_or_none,
+    "overlap_time": seconds_or_none,
+    "overlap_start": length_or_none,
 }
 """The keys of an aspect's value, and how the value of each is read."""
-LENGTHS = ("end", "overlap")
+LENGTHS = ("end", "overlap", "danger", "end_start", "overlap_start")
+TIMES = ("loa_time", "end_time", "overlap_time")
 
 
 def terms(text: str) -> Terms:
@@ -75,7 +113,7 @@ def terms(text: str) -> Terms:
         key, equals, value = part.partition("=")
         key = key.lower()
         if key not in ASPECT_KEYS or not equals:
-            raise TableError(f"{_shown(part)} is none of v=.., end=.., overlap=.. and release=..")
+            raise TableError(f"{_shown(part)} is none of {', '.join(f'{name}=..' for name in ASPECT_KEYS)}")
         if key in found:
             raise TableError(f"{key} is given twice")
         try:
@@ -112,6 +150,68 @@ def rbc(text: str) -> str:
     return f"{int(found[1])}/{int(found[2])}"
 
 
+def group(text: str) -> GroupTerms:
+    """What a group is, written as `id=352/17 balises=2 linked=yes at=12.300,12.303`."""
+    found: Dict[str, str] = {}
+    for part in text.split():
+        key, equals, value = part.partition("=")
+        if key.lower() not in ("id", "balises", "linked", "at") or not equals:
+            raise TableError(f"{_shown(part)} is none of {GROUP_KEYS}")
+        if key.lower() in found:
+            raise TableError(f"{key.lower()} is given twice")
+        found[key.lower()] = value.lower()
+    if not found:
+        raise TableError("empty: a group needs a value such as id=352/17 balises=2 linked=yes")
+    terms = GroupTerms(*(reader(found[key]) if key in found else empty for key, reader, empty in GROUP_READERS))
+    if terms.balises and terms.kilometres and len(terms.kilometres) != terms.balises:
+        raise TableError(f"at: {len(terms.kilometres)} kilometres for {terms.balises} balises")
+    return terms
+
+
+def _identity(text: str) -> Tuple[int, int]:
+    found = RBC.fullmatch(text)
+    if not found or int(found[1]) > GREATEST_COUNTRY or int(found[2]) > GREATEST_GROUP:
+        raise TableError(f"id: {_shown(text)} is no identity: write NID_C/NID_BG, such as 352/17")
+    return int(found[1]), int(found[2])
+
+
+def _balises(text: str) -> int:
+    if not re.fullmatch("[1-8]", text):
+        raise TableError(f"balises: {_shown(text)} is no number from 1 to {GREATEST_BALISES}")
+    return int(text)
+
+
+def _linked(text: str) -> bool:
+    if text not in LINKED:
+        raise TableError(f"linked: {_shown(text)} is neither yes nor no")
+    return LINKED[text]
+
+
+def _kilometres(text: str) -> Tuple[Decimal, ...]:
+    words = text.split(",")
+    if not all(re.fullmatch(r"[0-9]{1,5}\.[0-9]{1,6}", word) for word in words):
+        raise TableError(f"at: {_shown(text)} is no list of kilometres: write 12.300,12.303")
+    return tuple(map(Decimal, words))
+
+
+GROUP_READERS: List[Tuple[str, Callable[[str], Any], Any]] = [
+    ("id", _identity, None),
+    ("balises", _balises, None),
+    ("linked", _linked, None),
+    ("at", _kilometres, ()),
+]
+"""The keys of a group's value, how the value of each is read, and what it is without the key."""
+
+
+def group_text(terms: GroupTerms) -> str:
+    """What a group is, as a plan writes it."""
+    parts = [f"id={terms.identity[0]}/{terms.identity[1]}"] if terms.identity else []
+    parts += [f"balises={terms.balises}"] if terms.balises else []
+    parts += [] if terms.is_linked is None else [f"linked={'yes' if terms.is_linked else 'no'}"]
+    parts += [f"at={','.join(map(kilometre, terms.kilometres))}"] if terms.kilometres else []
+    return " ".join(parts)
+
+
 def speed_word(value: int) -> str:
     """A speed, or a release speed, as a plan writes it."""
     return next((word for word, number in RELEASE.items() if number == value), str(value * STEP))
@@ -124,7 +224,8 @@ def terms_text(found: Terms) -> str:
 
 def term_words(key: str, value: Optional[int]) -> str:
     """The value of a key of an aspect in a sentence."""
-    unit = "" if value is None or key == "release" and value in RELEASE.values() else "m" if key in LENGTHS else "km/h"
+    is_word = value is None or key == "release" and value in RELEASE.values()
+    unit = "" if is_word else "m" if key in LENGTHS else "s" if key in TIMES else "km/h"
     return f"{term_word(key, value)} {unit}".strip()
 
 
@@ -132,7 +233,7 @@ def term_word(key: str, value: Optional[int]) -> str:
     """The value of a key of an aspect."""
     if value is None:
         return NO_END
-    return speed_word(value) if key in ("v", "release") else metres(value)
+    return metres(value) if key in LENGTHS else str(value) if key in TIMES else speed_word(value)
 
 
 def metres(length_dm: int) -> str:

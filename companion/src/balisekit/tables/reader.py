@@ -7,6 +7,7 @@ from itertools import islice
 from typing import Any, Callable, Dict, Iterator, List, Mapping, Optional, Sequence, Tuple
 
 from balisekit.errors import TableError, TableErrors, faults_of
+from balisekit.expressions import expression
 from balisekit.io import inputs
 from balisekit.tables import beside, csv as csv_file, decimal_commas, own_headings
 from balisekit.tables.cells import (
@@ -23,20 +24,20 @@ from balisekit.tables.cells import (
 )
 from balisekit.tables.encoding import WORKBOOKS
 from balisekit.tables.grouping import groups_of
-from balisekit.tables.headings import SEARCHED, Headings, alike
+from balisekit.tables.headings import SEARCHED, Headings, alike, compared
 from balisekit.tables.model import Reading, Row, Table
 
-KM = re.compile(r"(?!-[0-9]+\+)(-?[0-9]{1,4})(?:[.,]([0-9]{1,6})|\+([0-9]{3})(?:[.,]([0-9]{1,3}))?)?")
-SCIENTIFIC = re.compile(r"[0-9]+[.,][0-9]+[eE]\+?[0-9]+|[0-9][eE]\+[0-9]+")
+KM = expression(r"(?!-[0-9]+\+)(-?[0-9]{1,4})(?:[.,]([0-9]{1,6})|\+([0-9]{3})(?:[.,]([0-9]{1,3}))?)?")
+SCIENTIFIC = expression(r"[0-9]+[.,][0-9]+[eE]\+?[0-9]+|[0-9][eE]\+[0-9]+")
 BY_POSITION = "--by-position orders balises by N_PIG, which hides a wrong N_PIG"
 COMPARED = 1000
 """How many headings that are passed over are compared with the known ones."""
 ABSENT = -1
 """The index of a column that the table lacks: each row that is read ends with an empty cell."""
 NO_GROUP = "no group; fill merged cells"
-NUMBER = re.compile(r"[-+]?[0-9]+([.,][0-9]*)?")
+NUMBER = expression(r"[-+]?[0-9]+([.,][0-9]*)?")
 NAMES = "the column balise has names and no number: it is read as the column name, and the order of the rows counts"
-PLAIN = re.compile(r"(?!\s*Loading)[^\0\r\n#:]{0,1000}")
+PLAIN = expression(r"(?!\s*Loading)[^\0\r\n#:]{0,1000}")
 """A text without anything that needs to be looked for."""
 
 
@@ -60,7 +61,7 @@ def read(
         not_there = beside.skip(cells.rows[place], places, skip_columns, place + 1)
         begin = end_of_heading(place + 1, cells.filled, places.values())
         named, passed_over = _take_names(cells, place, places), _passed_over(cells, place, places)
-        meant = tuple(_meant(name, places) for name in passed_over[:COMPARED])
+        meant = tuple(_meant(passed_over, places, compared(skip_columns)))
         try:
             cells.look_at_calculated(begin, len(cells.rows[place]), places)
             unread = beside.unread(cells, place, begin, places, skip_columns)
@@ -156,10 +157,11 @@ def _is_name(cell: str) -> bool:
     return not kind and not NUMBER.fullmatch(text.strip())
 
 
-def _meant(heading: str, places: Mapping[str, int]) -> str:
-    """The column that the table lacks and that this heading resembles, or nothing."""
+def _meant(headings: Sequence[str], places: Mapping[str, int], skipped: Sequence[str]) -> Iterator[str]:
+    """The column that the table lacks and that each heading resembles, or nothing. None is meant that was skipped."""
     lacks = [name for name in COLUMNS if name not in places]
-    return alike(heading.lower(), lacks)
+    for heading, name in zip(headings[:COMPARED], compared(headings[:COMPARED])):
+        yield "" if name in skipped else alike(heading.lower(), lacks)
 
 
 def _passed_over(sheet: Sheet, place: int, places: Mapping[str, int]) -> Tuple[str, ...]:

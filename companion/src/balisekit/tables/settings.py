@@ -14,6 +14,8 @@ class Setting(NamedTuple):
     is_path: bool = False
     sha256: str = ""
     """Of the file that the value names."""
+    replaced_by: str = ""
+    """The option of the command line that replaces a value of a file. The value is not used then."""
 
 
 class Source(NamedTuple):

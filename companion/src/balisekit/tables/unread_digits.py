@@ -8,26 +8,42 @@ import re
 import unicodedata
 from collections import Counter
 from string import ascii_letters, digits as digits_of_ten, hexdigits
-from typing import List, Sequence, Set
+from typing import Dict, List, Sequence, Set
 
+from balisekit.expressions import expression
 from balisekit.tables.cells import digits, kind_and_text
+from balisekit.tables.pieces import (
+    FIRST,
+    LENGTHS,
+    are_pieces,
+    begins_right,
+    has_fill,
+    have_rest_beside,
+    in_rows,
+    is_header,
+    is_word,
+)
 
 LEAST_DIGITS, LEAST_LETTERS, LEAST_RUN = 40, 4, 13
 """How many digits could be a telegram: in groups, if so many are letters; or in one run, if one of them is a letter."""
-CHECKSUM = re.compile(r"(?<![^\W_])(?:0[xX])?([0-9A-Fa-f]{32}|[0-9A-Fa-f]{40}|(?:[0-9A-Fa-f]{32}){2,4})(?![^\W_])")
+CHECKSUM = expression(r"(?<![^\W_])(?:0[xX])?([0-9A-Fa-f]{32}|[0-9A-Fa-f]{40}|(?:[0-9A-Fa-f]{32}){2,4})(?![^\W_])")
 """An MD5, SHA-1, SHA-256, SHA-384 or SHA-512, unless it looks like a telegram with fill, or like a part of one."""
-VERSIONS, LEAST_REST, FILL = ("a0", "a1", "90", "91"), 10, re.compile("(?:[Ff]{4,}|0{4,})$")
-"""With what a telegram begins, how many digits with letters can be the rest of one, and what fills one up."""
+LEAST_REST, FILL = 10, expression("(?:[Ff]{4,}|0{4,})$")
+"""How many digits with letters can be the rest of a telegram, and what fills one up that begins with a header."""
+MOST_IN_ROW = 1000
+"""How long a row can be that has a part of a telegram."""
 MOST_CHECKSUMS = 4
 """Of one length. More of them could be the lines of a telegram."""
-UUID = re.compile(r"(?<![^\W_])[0-9A-Fa-f]{8}(?:-[0-9A-Fa-f]{4}){3}-[0-9A-Fa-f]{12}(?![^\W_])")
-GROUP = re.compile(
+UUID = expression(
+    r"(?<![^\W_])(?<![0-9A-Fa-f]-)[0-9A-Fa-f]{8}(?:-[0-9A-Fa-f]{4}){3}-[0-9A-Fa-f]{12}(?![^\W_])(?!-[0-9A-Fa-f])"
+)
+GROUP = expression(
     rf"([0-9A-Fa-f]{{{LEAST_RUN},}}|(?<=0[xX])[0-9A-Fa-f]+"
     r"|(?<![^\W_])[0-9A-Fa-f]+(?=[hHuU]?(?![^\W_]))|(?<=(?<![^\W_])[xXhHuU])[0-9A-Fa-f]+(?=[hHuU]?(?![^\W_])))"
 )
 """A run, or digits that no other letter is beside, except what marks them as hexadecimal: 0x, \\x, \\u, h."""
-LETTER, NO_DIGIT = re.compile("[A-Fa-f]"), re.compile("[^0-9A-Fa-f]+")
-LARGE = re.compile(
+LETTER, NO_DIGIT = expression("[A-Fa-f]"), expression("[^0-9A-Fa-f]+")
+LARGE = expression(
     r"(?<![^\W_])(?:[0-9]+(?:[.,][0-9]+)?[eE]\+|[0-9]+[.,][0-9]+[eE])0*(39|[4-9][0-9]|[1-9][0-9]{2})(?![^\W_])"
 )
 """A number of at least 40 digits, to which a spreadsheet has shortened a telegram. Not every tool writes the plus."""
@@ -63,6 +79,8 @@ def possible_digits(text: str) -> int:
     is_spread = letters >= LEAST_LETTERS and sum(map(size, counted)) >= LEAST_DIGITS
     if is_spread or any(size(group) >= LEAST_RUN for group in counted):
         return sum(map(len, counted))
+    if are_pieces(groups):
+        return sum(map(len, groups))
     return max((int(exponent) + 1 for exponent in LARGE.findall(text)), default=0)
 
 
@@ -85,17 +103,38 @@ def could_hold_telegram(text: str) -> bool:
 
 def groups_of(text: str) -> List[str]:
     """The groups of hexadecimal digits of a text, without UUIDs and checksums."""
-    plain = text if text.isascii() else unicodedata.normalize("NFKC", text)
-    return GROUP.findall(re.sub("(?=0[xX])", " ", _without_names(plain)))
+    return _groups(_without_names(text if text.isascii() else unicodedata.normalize("NFKC", text)))
+
+
+def all_groups(text: str) -> List[str]:
+    """The groups of hexadecimal digits of a text, with UUIDs and checksums."""
+    return _groups(text if text.isascii() else unicodedata.normalize("NFKC", text))
+
+
+def digits_in_rows(texts: Sequence[str]) -> Dict[int, int]:
+    """How many digits those of these rows have, counted from 0, that are a telegram together, one below the other."""
+    joined = "\n".join(texts)
+    if "f" not in joined.lower() or not FIRST.search(joined):  # (what ends a telegram is an f and parts of two digits)
+        return {}
+    rows = [all_groups(text) if FIRST.search(text) or len(text) < MOST_IN_ROW else [] for text in texts]
+    return {at: sum(map(len, rows[at])) for found in in_rows(rows) for at in found}
+
+
+def _groups(text: str) -> List[str]:
+    return GROUP.findall(re.sub("(?=0[xX])", " ", text))
 
 
 def _without_names(text: str) -> str:
-    """The text without UUIDs and checksums, unless there are more of one length than a text names."""
-    text = UUID.sub("", text)
-    lengths = Counter(map(len, CHECKSUM.findall(text)))
-    if max(lengths.values(), default=0) > MOST_CHECKSUMS:
+    """The text without UUIDs and checksums, unless there are more of one length than a text names, or it has pieces."""
+    plain = UUID.sub("", text)
+    checksums = CHECKSUM.findall(plain)
+    if not checksums and len(plain) == len(text):
         return text
-    return CHECKSUM.sub(lambda found: found[0] if _begins_telegram(found[1], text[found.end() :]) else "", text)
+    if are_pieces(all_groups(text)) or have_rest_beside(_groups(plain), checksums):
+        return text
+    if max(Counter(map(len, checksums)).values(), default=0) > MOST_CHECKSUMS:
+        return plain
+    return CHECKSUM.sub(lambda found: found[0] if _begins_telegram(found[1], plain[found.end() :]) else "", plain)
 
 
 def _begins_telegram(value: str, rest: str) -> bool:
@@ -103,12 +142,14 @@ def _begins_telegram(value: str, rest: str) -> bool:
 
     One in 300 random checksums begins with a header, so fill or other digits must follow.
     """
-    bits = int(value[2:6], 16)
-    is_header = not bits >> 15 and bits >> 12 & 7 <= bits >> 9 & 7 and bits >> 7 & 3 < 3
-    if value[:2].lower() not in VERSIONS or not is_header:
-        return False
-    following = sum(len(group) for group in GROUP.findall(rest) if LETTER.search(group))
-    return bool(FILL.search(value)) or following >= LEAST_REST
+    if has_fill(value) or not is_header(value):
+        return has_fill(value)
+    groups = _groups(rest)
+    lettered = [group for group in groups if LETTER.search(group) and not CHECKSUM.fullmatch(group)]
+    is_long = sum(len(group) for group in lettered if not is_word(group)) >= LEAST_REST
+    if FILL.search(value) or is_long and begins_right([value, *groups]):
+        return True
+    return sum(map(len, [value, *groups])) == LENGTHS[-1]
 
 
 def size(group: str) -> int:

@@ -21,7 +21,7 @@ from balisekit.tables.encoding import OLD_WORKBOOK
 from balisekit.tables.headings import SEARCHED, Headings, is_data
 from balisekit.tables.other_parts import Beside, beside_cells
 from balisekit.tables.strings import NAMESPACE, OTHER_TEXT, Strings
-from balisekit.tables.unread_digits import is_telegram, possible_digits
+from balisekit.tables.unread_digits import digits_in_rows, is_telegram, possible_digits
 
 CONTENTS = "[Content_Types].xml"
 """A part that each workbook has."""
@@ -386,6 +386,7 @@ def _found_in_others(book: Any, chosen: Any, recalculates: bool) -> Dict[str, Fo
 def _found(sheet: Any, recalculates: bool) -> Found:
     """What is found in a sheet whose rows and cells may be in any order."""
     found, number = Found([], [], {}), 0
+    rows: Dict[int, str] = {}
     for row, parse_cell in _elements(sheet):
         number, texts = _number(row.get("r", "")) or number + 1, []
         for cell in row.iterfind(f"{NAMESPACE}c"):
@@ -394,8 +395,11 @@ def _found(sheet: Any, recalculates: bool) -> Found:
             found.formulas.extend([number] * _is_not_calculated(cell, value, recalculates))
         others = [text for text in texts if not is_telegram(text)]
         found.telegrams.extend([number] * (len(texts) - len(others)))
-        count = possible_digits(" ".join(others))
+        rows[number] = " ".join(others)
+        count = possible_digits(rows[number])
         found.possible.update({number: count} if count else {})
+    numbers, below = list(rows), digits_in_rows([*rows.values()])
+    found.possible.update({numbers[at]: count for at, count in below.items()})
     return found
 
 

@@ -6,10 +6,10 @@ each start, so a module imports what writes its file when it writes.
 from __future__ import annotations
 
 from importlib import import_module
-from pkgutil import iter_modules
 from typing import Callable, NamedTuple
 
 from balisekit.io.outputs import Output
+from balisekit.rules.discovery import modules_in
 from balisekit.rules.families import Outcome
 
 
@@ -26,5 +26,5 @@ class Format(NamedTuple):
     """A note on the file if something was refused or left out."""
 
 
-FORMATS = tuple(import_module(f"{__name__}.{module.name}").FORMAT for module in iter_modules(__path__))
+FORMATS = tuple(import_module(f"{__name__}.{name}").FORMAT for name in modules_in(__path__))
 """In the order of their names."""

@@ -31,6 +31,10 @@ SUGGESTIONS: Sequence[Sequence[Suggest]] = (
         packets.suggest,
         links.suggest,
     ),
+    (packets.suggest_infill,),
     (places.suggest,),
 )
-"""In the order in which they are tried: what the rest of the table shows, what would be right, where the mistake is."""
+"""In the order in which they are tried: what the rest of the table shows, what would be right, where the mistake is.
+
+Infill comes after what would be right at its signal.
+"""

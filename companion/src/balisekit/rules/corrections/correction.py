@@ -42,6 +42,10 @@ class Correction(NamedTuple):
     """How many entries it must explain: the entry itself says as much as a correction that explains one."""
     is_only_place: bool = False
     """Whether it shows only where the mistake is: nobody knows what would be right."""
+    is_of_stranger: bool = False
+    """Whether it leaves out the packets of a telegram of another group: its group then lacks what it should have."""
+    rule: str = ""
+    """The rule of the entry, if that is not the rule of the first entry that it explains."""
 
     def is_like(self, other: Correction) -> bool:
         """Whether both leave out an aspect of one group: then nobody knows which of the aspects is wrong."""
@@ -76,7 +80,8 @@ class Evidence:
     @cached_property
     def forms(self) -> Mapping[int, Form]:
         """The telegram of each row as an object. Nobody changes it."""
-        return {row.number: record.shared for row, record in self.checked.accepted.decoded(self.rows)}
+        records = self.checked.accepted.records
+        return {number: records[row.telegram].shared for number, row in self.rows.items()}
 
     def identity(self, row: int) -> Mapping[str, int]:
         """NID_C and NID_BG of most telegrams of the group of a row."""

@@ -5,6 +5,7 @@ from collections import Counter
 from typing import Iterator, Tuple
 
 from balisekit.rules.corrections.correction import Correction, Evidence, names_another_identity, with_values
+from balisekit.rules.corrections.places import without_packets
 from balisekit.rules.link_steps import counted as steps_of_chain
 from balisekit.rules.location import Identity
 from balisekit.tables.model import Group
@@ -19,6 +20,7 @@ def suggest(evidence: Evidence) -> Iterator[Correction]:
     for entry in evidence.entries:
         if names_another_identity(entry) and entry.group:
             yield _of_telegram(evidence, entry.group, entry.rows[0], *evidence.identities(entry))
+            yield from _of_copy(evidence, entry.rows[0])
     for group, identity, links in _called(evidence):
         yield _of_group(evidence, group, identity, links)
     for entry in evidence.entries:
@@ -35,6 +37,14 @@ def _in_one(earlier: Group, group: Group) -> Correction:
         f"{clean(earlier.name)} and {clean(group.name)} have one identity: as the rows of one group all would agree"
     )
     return Correction(earlier, rows, sentence, cells)
+
+
+def _of_copy(evidence: Evidence, row: int) -> Iterator[Correction]:
+    """The packets of a telegram that another group has too: they say nothing of this group."""
+    own = evidence.rows[row]
+    rows = (each for each in evidence.rows.values() if each.group != own.group)
+    if any(each.telegram.lower() == own.telegram.lower() for each in rows):
+        yield without_packets(evidence, (row,), "the packets of the telegram")._replace(is_of_stranger=True)
 
 
 def _of_telegram(evidence: Evidence, group: Group, row: int, own: Identity, identity: Identity) -> Correction:

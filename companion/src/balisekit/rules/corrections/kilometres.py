@@ -40,6 +40,8 @@ class Elsewhere(NamedTuple):
     """How many links have it there."""
     links: int
     """How many links lead to it or from it, and are compared."""
+    off: int
+    """By how many decimetres the farthest of those that agree leads elsewhere. 0 if all lead to this place."""
 
     @property
     def metres(self) -> Decimal:
@@ -101,9 +103,10 @@ def _elsewhere(evidence: Evidence, leads_of: Mapping[int, Sequence[Lead]]) -> It
         places = Counter(lead.place for lead in leads if lead.differs)
         if places and groups[number].group.name in evidence.groups:
             (place, _), *_ = places.most_common(1)
-            agreeing = sum(count for other, count in places.items() if abs(other - place) <= SAME)
+            near = {other: count for other, count in places.items() if abs(other - place) <= SAME}
+            agreeing, off = sum(near.values()), max(abs(other - place) for other in near)
             if 2 * agreeing >= len(leads):
-                yield Elsewhere(groups[number], place, agreeing, len(leads))
+                yield Elsewhere(groups[number], place, agreeing, len(leads), off)
 
 
 def _exchanged(found: Sequence[Elsewhere]) -> Iterator[Tuple[Elsewhere, Elsewhere]]:
@@ -131,17 +134,24 @@ def _cells(group: BaliseGroup, metres: Decimal) -> Cells:
 def _moved(one: Elsewhere) -> Correction:
     which = "all links" if one.agreeing == one.links else f"{one.agreeing} of {one.links} links"
     sentence = (
-        f"{which} to and from {clean(one.group.group.name)} differ by {abs(one.metres):f} m from its kilometre: "
-        f"at km {one.kilometre} they would agree"
+        f"{which} to and from {clean(one.group.group.name)} differ by {'about ' if one.off else ''}"
+        f"{abs(one.metres):f} m from its kilometre: at km {one.kilometre} they would {_agree(one.off)}"
     )
     cells, values = _cells(one.group, one.metres), {"km": one.kilometre, "metres": f"{one.metres:f}"}
     return Correction(one.group.group, tuple(sorted(cells)), sentence, cells, values=values)
 
 
+def _agree(off: int) -> str:
+    """What links would do that lead up to so many decimetres elsewhere."""
+    return f"differ by at most {Decimal(off) / 10:f} m" if off else "agree"
+
+
 def _exchange(one: Elsewhere, other: Elsewhere, cells: Cells, forms: Mapping[int, Form]) -> Correction:
+    pairs = ((one, other), (other, one))
+    off = max(each.off + abs(each.place - (its.group.place or 0)) for each, its in pairs)
     sentence = (
         f"{clean(one.group.group.name)} and {clean(other.group.group.name)} look exchanged: "
-        f"{counted(one.agreeing + other.agreeing, 'link')} to them would agree if each had the "
+        f"{counted(one.agreeing + other.agreeing, 'link')} to them would {_agree(off)} if each had the "
         f"{'kilometre' if cells else 'telegrams'} of the other"
     )
     return Correction(one.group.group, tuple(sorted({*cells, *forms})), sentence, cells, forms)

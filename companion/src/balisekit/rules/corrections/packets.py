@@ -7,11 +7,15 @@ from typing import Any, Dict, Iterator, List, Mapping, Optional, Sequence, Set, 
 from balisekit.engine.records import Form
 from balisekit.etcs.packets import packet_name
 from balisekit.rules.corrections.correction import Correction, Evidence, with_values
+from balisekit.rules.entries import Entry
+from balisekit.rules.meaning.infill_signals import COMPARED
 from balisekit.tables.model import Group
-from balisekit.tables.names import ordinal
+from balisekit.tables.names import ordinal, rows_words
 
 DIRECTIONS = {0: "the reverse direction", 1: "the nominal direction", 2: "both directions"}
 """By Q_DIR."""
+INFILL = 136
+"""What precedes infill."""
 
 
 def suggest(evidence: Evidence) -> Iterator[Correction]:
@@ -22,6 +26,12 @@ def suggest(evidence: Evidence) -> Iterator[Correction]:
     yield from _choices(evidence)
     for row, count in rows.items():
         yield from _of_siblings(evidence, row) if count > 1 else ()
+
+
+def suggest_infill(evidence: Evidence) -> Iterator[Correction]:
+    """The packets of infill as its signal has them, if no other correction explains what E15 reports."""
+    for entry in evidence.entries:
+        yield from _of_infill(evidence, entry) if entry.rule == "E15" else ()
 
 
 def named(evidence: Evidence) -> Mapping[int, int]:
@@ -120,6 +130,24 @@ def _of_siblings(evidence: Evidence, row: int) -> Iterator[Correction]:
                 made = with_packet(form, place, other)
                 words = f"{packet_words(form, place)}: as in row {sibling} it would agree"
                 yield Correction(group, (row,), words, forms={row: made})
+
+
+def _of_infill(evidence: Evidence, entry: Entry) -> Iterator[Correction]:
+    """The packets of an infill that E15 compares, as its signal has them, for the direction of the infill."""
+    signals = {where.row.number for where in entry.remark.compared if where.row} if entry.remark else set()
+    for row in entry.rows if len(entry.rows) == 1 and signals <= evidence.rows.keys() else ():
+        made, is_infill = evidence.forms[row], False
+        for place, packet in enumerate(made["packets"]):
+            number = packet["nid_packet"]
+            found = (_alike(evidence.forms[each], number) for each in sorted(signals))
+            other = next((each for each in found if each), None)
+            if is_infill and other and number in COMPARED:
+                made = with_packet(made, place, {**other, "q_dir": packet["q_dir"]})
+            is_infill = is_infill or number == INFILL
+        if made != evidence.forms[row]:
+            words = f"{entry.sentence}; with the packets of {rows_words(sorted(signals))} it would agree"
+            correction = Correction(group_of(evidence, row), (row,), words, forms={row: made}, values=entry.values)
+            yield correction._replace(rule="E15", least=1)
 
 
 def _alike(form: Form, number: int) -> Optional[Mapping[str, Any]]:

@@ -16,10 +16,10 @@ def suggest(evidence: Evidence) -> Iterator[Correction]:
     for group in groups:
         yield from _aspects(evidence, group)
     for row, count in named(evidence).items():
-        yield from [_without_packets(evidence, (row,), "the packets of the telegram")] if count > 1 else ()
+        yield from [without_packets(evidence, (row,), "the packets of the telegram")] if count > 1 else ()
     for group in groups:
         rows = tuple(sorted(row.number for row in group.each_row))
-        yield _without_packets(evidence, rows, f"the packets of {clean(group.name)}")
+        yield without_packets(evidence, rows, f"the packets of {clean(group.name)}")
 
 
 def _aspects(evidence: Evidence, group: Group) -> Iterator[Correction]:
@@ -35,7 +35,7 @@ def _aspects(evidence: Evidence, group: Group) -> Iterator[Correction]:
             yield Correction(group, own, f"the aspect {quoted(name)}", lost=own, is_only_place=True)
 
 
-def _without_packets(evidence: Evidence, rows: Tuple[int, ...], words: str) -> Correction:
+def without_packets(evidence: Evidence, rows: Tuple[int, ...], words: str) -> Correction:
     """These telegrams without packets, with the identity that most telegrams of their group have."""
     forms = {row: with_values(evidence.forms[row], packets=[], **evidence.identity(row)) for row in rows}
     return Correction(group_of(evidence, rows[0]), rows, words, forms=forms, is_only_place=True)

@@ -4,7 +4,6 @@ A correction explains entries only if they are gone then, and no other one is th
 """
 from __future__ import annotations
 
-import re
 from collections import Counter
 from dataclasses import replace
 from functools import partial
@@ -21,11 +20,13 @@ from typing import (
     NamedTuple,
     Optional,
     Sequence,
+    Set,
     Tuple,
 )
 
 from balisekit.engine.program import Program, Text
 from balisekit.errors import TableError, TableErrors
+from balisekit.expressions import expression
 from balisekit.rules.corrections.correction import Correction, Evidence, Suggest, names_another_identity
 from balisekit.rules.entries import Entry
 from balisekit.tables.changed import changed_table
@@ -35,7 +36,7 @@ MOST, JUDGED = 40, 6_000
 """How many corrections of one stage are tried at most, and how many telegrams and entries are made again for them."""
 OF_PROFILES = {10: (12, 15, 21), 11: (12, 15, 21), 12: (12, 15, 27), 13: (12, 15, 27)}
 """The packets that findings of profiles compare, by the rule F."""
-NUMBER = re.compile(r"[+-]?\d(?:[\d.,]*\d)?")
+NUMBER = expression(r"[+-]?\d(?:[\d.,]*\d)?")
 
 
 class Answer(NamedTuple):
@@ -46,6 +47,8 @@ class Answer(NamedTuple):
     """How many things each rule has not looked at."""
     refused: int = 0
     """How many telegrams and groups were refused or left out."""
+    reasons: Mapping[Tuple[str, str], int] = {}
+    """The same as `skipped` by rule and reason."""
 
 
 class Explained(NamedTuple):
@@ -130,21 +133,70 @@ def _packets(entry: Entry) -> FrozenSet[int]:
 
 
 def _gone(evidence: Evidence, before: Answer, had: "Counter[Key]", again: Again, correction: Correction) -> List[Entry]:
-    """The open entries that are gone with a correction, if there is no new one and nothing is judged less."""
+    """The open entries that are gone with a correction, if there is no new one and nothing is judged less.
+
+    A finding that was there before is not new, and one that is expected then is gone. Others must be gone beside it.
+    """
     texts = _texts(evidence.checked.program, correction)
     if texts is None:  # (nobody can write it)
         return []
-    left = had.copy()
+    left, known = had.copy(), _known(evidence, correction)
+    expected: Set[str] = set()
+    still: Set[str] = set()
     try:
         for answer in again(_corrected(evidence.checked.table, correction, texts)):
-            has = Counter(map(_key, answer.entries))
-            less = any(count > before.skipped.get(rule, 0) for rule, count in answer.skipped.items())
-            if less or answer.refused > before.refused or has - had:
-                return []
+            old = [entry for entry in answer.entries if entry.findings and known.issuperset(_lines(entry))]
+            others = [entry for entry in old if entry.expected]
+            expected.update(line for entry in others for line in _lines(entry))
+            still.update(line for entry in old if not entry.expected for line in _lines(entry))
+            has = Counter(map(_key, answer.entries)) - Counter(map(_key, others))
+            new = has - had - Counter(map(_key, old))
             left.subtract(has)
+            new -= _in_other_words(new, left)
+            if answer.refused > before.refused or _is_worse(correction, before, answer, new):
+                return []
     except (TableError, TableErrors):
         return []
-    return list(_missing(evidence.entries, left))
+    missing = [each for each in _missing(evidence.entries, left) if not (each.findings and still >= {*_lines(each)})]
+    corrected = sum(not entry.findings or not expected.issuperset(_lines(entry)) for entry in missing)
+    return missing if corrected >= correction.least else []
+
+
+def _in_other_words(new: "Counter[Key]", left: "Counter[Key]") -> "Counter[Key]":
+    """The new entries of which the same rule had one of the same rows: that one is not gone then."""
+    found: Counter[Key] = Counter()
+    for key in new:
+        same = next((each for each in left if left[each] > 0 and each[:3] == key[:3]), None)
+        if same is not None and not found[key]:
+            left[same] -= 1
+            found[key] += 1
+    return found
+
+
+def _known(evidence: Evidence, correction: Correction) -> Set[str]:
+    """The findings of the table, as the program says them. With other groups or aspects they have other numbers."""
+    has_other_numbers = correction.lost or any("group" in cells for cells in correction.cells.values())
+    return set() if has_other_numbers else {place.finding.line for place in evidence.checked.findings}
+
+
+def _lines(entry: Entry) -> Sequence[str]:
+    """The findings of an entry, as the program says them."""
+    return [place.finding.line for place in entry.findings]
+
+
+def _is_worse(correction: Correction, before: Answer, answer: Answer, new: "Counter[Key]") -> bool:
+    """Whether a rule compares less, or has new entries that it would have had before if it had compared as much.
+
+    A group without the packets of another group lacks what its own telegram should say: nothing is said of that.
+    """
+    if correction.is_of_stranger:
+        return any(key[2] != correction.group.name for key in new)
+    if any(count > before.skipped.get(rule, 0) for rule, count in answer.skipped.items()):
+        return True
+    judged = Counter(key[0] for key in new.elements())
+    for (rule, why), count in before.reasons.items() if judged else ():
+        judged[rule] -= max(count - answer.reasons.get((rule, why), 0), 0) if rule in answer.skipped else 0
+    return any(count > 0 for count in judged.values())
 
 
 def _corrected(table: Table, correction: Correction, texts: Mapping[int, Mapping[str, Any]]) -> Table:

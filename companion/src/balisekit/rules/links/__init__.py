@@ -20,6 +20,7 @@ SHOWN = 20
 """How many notes with one reason are written. The others are counted."""
 NOT_THERE = "its group is not in the table, and its distances are not compared"
 INFILL = "it counts from the group of packet 136, and is not compared"
+NO_TRACK = "no track, although other groups have one: L2, L3 and L9 compare no link between it and these"
 Note = Tuple[str, str]
 """What it is about, and the reason."""
 
@@ -46,10 +47,11 @@ def notes_on(line: Line) -> Iterator[str]:
 
 def passed_over(line: Line) -> Iterator[PassedOver]:
     """The groups and messages that some of these rules do not look at."""
-    yield from (PassedOver(group.group, _lacks(line, group)) for group in line.groups if _lacks(line, group))
+    reasons = ((group.group, _passes_over(line, group)) for group in line.groups)
+    yield from (PassedOver(group, why) for group, why in reasons if why)
     chains = {chain.location.message.number: chain for chain in line.chains if chain.location.message}
     for chain in chains.values():
-        why = _lacks(line, chain.sender) if chain.sender else NOT_THERE
+        why = _passes_over(line, chain.sender) if chain.sender else NOT_THERE
         if why and chain.location.message:
             yield PassedOver(chain.location.message, why)
 
@@ -63,6 +65,8 @@ def _all(line: Line) -> Iterator[Note]:
         if first is not None and first.group is not group:
             why = f"links to its identity count for {clean(first.group.group.name)}, which has it too"
             yield describe_group(group.group), why
+    if line.trackless:
+        yield listed([clean(group.group.name) for group in line.trackless], SHOWN), NO_TRACK
     several = [clean(group.group.name) for group in line.groups if group.by_links and group.balises > 1]
     if several:
         yield listed(several, SHOWN), BY_OWN_LINKS
@@ -70,6 +74,11 @@ def _all(line: Line) -> Iterator[Note]:
     for chain in line.chains:
         if chain.sender is None:
             yield str(chain.location), NOT_THERE
+
+
+def _passes_over(line: Line, group: BaliseGroup) -> str:
+    """Why some of these rules do not look at a group, or at any of its links."""
+    return _lacks(line, group) or (NO_TRACK if group.number in line.cut_off else "")
 
 
 def _lacks(line: Line, group: BaliseGroup) -> str:

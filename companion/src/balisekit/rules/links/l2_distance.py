@@ -1,14 +1,16 @@
 """L2: distance differs.
 
 What it says. The distance to a linked group by D_LINK differs from the distance by the kilometres by more than
-Q_LOCACC, `--tolerance` and rounding. The rule rests on SUBSET-026, 3.4.4, 3.16.2.3 and 7.5.1.
+Q_LOCACC, `--tolerance` and rounding. These three values are added, and `--tolerance` is 0 m by default. The rule rests
+on SUBSET-026, 3.4.4, 3.16.2.3 and 7.5.1.
 - Both distances count from the sending group. After a link with a remark, the distances of the next links count from
-  the group of that link. The remark names the group from which they count.
+  the group of that link. The remark names the group from which the distances count.
 - A remark contains "in rear of it" if, by the kilometres, trains pass the linked group before the group from which the
   distances count.
-- If the direction of the sending group along the kilometres is not known, the first link that is compared shows it.
-- If the links of two or more groups lead over one stretch and all differ by the same amount, one remark asks whether
-  the kilometres jump there.
+- If the direction of the sending group along the kilometres is not known, the first link that is compared shows this
+  direction.
+- If all links over one stretch differ by the same amount, and the links are of two or more groups, one remark asks
+  whether the kilometres jump there. The amounts count as the same if they are at most 2 m plus `--tolerance` apart.
 
 Why it matters. At worst the train has a wrong position. It expects the group at another place. If the group is inside
 the expectation window, the train corrects its position by a wrong distance. If the group is outside the window, the
@@ -18,14 +20,14 @@ Example. Before (`examples/links/distance-differs.csv`): by the kilometres B (km
 and the link of A has D_LINK 1,010 m with Q_LOCACC 5 m. After (`examples/links/line.csv`): D_LINK is 1,000 m.
 
 When it is a false alarm. The rule relies on the kilometres of the table as positions on the track. The remark can be
-false if they follow another axis, are rounded coarsely, or belong to signals. It can also be false if they jump at a
-place that neither `--jumps` nor a track plan states. All links over that place then differ by the same amount. The rule
-also assumes that the links stay on the track. A route through another track breaks this assumption, and so does a
-balloon loop that leads back to a group which was already passed. {one way}
+false if the kilometres follow another axis, are rounded coarsely, or belong to signals. It can also be false if the
+kilometres jump at a place that neither `--jumps` nor a track plan states. All links over that place then differ by the
+same amount. The rule also assumes that the links stay on the track. That is not so for a route through another track,
+or for a balloon loop that leads back to a group which was already passed. {one way}
 
 Usual cause. A group was moved and the links to it were not generated again. Or Q_SCALE is not the scale of the
-distances. Or a distance was counted from another balise than the first one of the group. Or the kilometre in the table
-is wrong: then all links to and from that group differ.
+distances. Or a distance was counted from another balise than the first balise of the group. Or the kilometre in the
+table is wrong. Then all links to and from that group differ.
 
 How to correct it. Correct D_LINK, or the kilometre of the table. If the kilometres are rounded, state by how much with
 `--tolerance`. If they jump, state the place with `--jumps`.

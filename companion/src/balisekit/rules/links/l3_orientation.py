@@ -34,8 +34,9 @@ from balisekit.etcs.geometry import NOMINAL, REVERSE
 from balisekit.rules.chains import Chain
 from balisekit.rules.facts import group_words
 from balisekit.rules.line import Line
-from balisekit.rules.location import ANOTHER_TRACK, NO_DIRECTION, NOT_IN_TABLE
+from balisekit.rules.location import NO_DIRECTION, NOT_IN_TABLE
 from balisekit.rules.rule import Options, Remark, Result, Rule, Urgency
+from balisekit.tables.chainage import apart
 
 
 def find(line: Line, options: Options) -> Result:
@@ -55,7 +56,7 @@ def _look_at(line: Line, chain: Chain) -> Iterator[Union[Remark, str, None]]:
         elif here.rising is None or along is None:
             yield NO_DIRECTION
         elif here.track != sender.track:
-            yield ANOTHER_TRACK
+            yield apart(here.track, sender.track)
         elif (here.rising == along) == link.nominal:
             yield None
         else:

@@ -1,8 +1,8 @@
 """L4: linked group has Q_LINK 0.
 
 What it says. A group of the table has Q_LINK 0, so it is not linked, although a packet 5 names it. The remark is about
-the group that is named, and lists up to three groups or messages whose packets 5 name it. The rule rests on SUBSET-026,
-3.4.4 and 7.5.1.
+the named group. It lists up to three groups or messages whose packets 5 name this group. The rule does not look at
+packets 5 after a packet 136. It rests on SUBSET-026, 3.4.4 and 7.5.1.
 
 Why it matters. To be looked at: linking does not supervise this group. A train accepts a group with Q_LINK 0 at any
 place, also outside its expectation window. So the train does not notice that the group is at a wrong place, and does
@@ -18,7 +18,7 @@ purpose got into a packet 5.
 
 How to correct it. Set Q_LINK to 1 in all telegrams of the group, or take the group out of the packets 5.
 
-How to accept it. There is no usual reason to accept it. Correct one of the two.
+How to accept it. There is no usual reason to accept it. Correct either Q_LINK or the packets 5.
 """
 from __future__ import annotations
 

@@ -1,25 +1,26 @@
 """L7: open profile under an authority.
 
 What it says. A group or message 3 gives an authority, and for the same direction a gradient or speed profile without an
-end mark. The program takes an open profile to reach any place. Its yes then rests on a rule of this project, which the
-standard might not share.
+end mark. Such a profile is open: the program assumes that it reaches any place. Then the yes of the program rests on a
+rule of this project, which the standard might not share.
 
-Why it matters. To be looked at: a yes then covers less than it seems to. The last gradient or speed holds without end,
-also on track that has another one. A train might refuse an authority whose profiles do not end.
+Why it matters. To be looked at: a yes then covers less than it seems to cover. The last gradient or speed holds without
+end, also on track that has another gradient or speed. A train might refuse an authority whose profiles do not end.
 
 Example. Before (`examples/links/open-profile.csv`): packet 21 of balise A2 (km 10.003) has no end mark, and the
 authority of its group rests on it. After (`examples/links/line.csv`): an element with G_A 255 ends the profile 1,000 m
 from the group.
 
 When it is a false alarm. Never, if each profile needs an end mark. This project has not looked up in a printed standard
-whether it does. If it does not, the remark is a false alarm in a project that omits end marks on purpose.
+whether each profile needs an end mark. If a profile needs none, the remark is a false alarm in a project that omits end
+marks on purpose.
 
 Usual cause. The end mark (G_A 255, V_STATIC 127) was forgotten. Or the tool that made the data omits it at the end of a
 line.
 
 How to correct it. End the profile with an end mark at the supervised location or beyond.
 
-How to accept it. Give the reason why the profile is open, and where the train gets the next one.
+How to accept it. Give the reason why the profile is open, and where the train gets the next profile.
 """
 from __future__ import annotations
 

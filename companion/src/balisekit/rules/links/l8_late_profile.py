@@ -3,18 +3,18 @@
 What it says. A group or message 3 gives an authority, and a gradient or speed profile that begins beyond 0 m. No other
 profile of this kind in the message begins at 0 m, so the message describes no track before that place. The proved
 program does not check where a profile begins. The rule rests on SUBSET-026, 3.7, 3.8 and 3.11.
-- The rule checks all groups, but only the first radio message 3 in the file.
-- A later message 3 might rely on the one before it, so a note only counts its late profiles.
+- The rule reports late profiles of all groups, but only of the first radio message 3 in the file.
+- For later messages 3, a note only counts the late profiles. Such a message might rely on the message before it.
 
-Why it matters. At worst the train uses an old profile, or none at all, on the track before the first element. Usually
+Why it matters. At worst the train uses an old profile, or no profile, on the track before the first element. Usually
 the train refuses the authority.
 
 Example. Before (`examples/links/profile-begins-late.csv`): packet 27 of balise A2 (km 10.003) begins at 50 m from the
 group. After (`examples/links/line.csv`): D_STATIC of its first element is 0 m.
 
 When it is a false alarm. The rule assumes that the profiles of a message begin at its group. That is not so if an
-earlier group gave the profile of the track before the first element. An earlier message 3 might also have given it, if
-that message was refused or is missing in the file of messages.
+earlier group gave the profile of the track before the first element. An earlier message 3 might also have given this
+profile, if that message was refused or is missing in the file of messages.
 
 Usual cause. The distance was counted from another balise or from a signal. Or an earlier message was meant to give the
 profile of the track before this place.

@@ -1,34 +1,35 @@
 """L9: linked group passed over.
 
-What it says. A packet 5 does not name a group that has Q_LINK 1 and data for this direction, although the group lies
-between two neighbours of the packet. The rule rests on SUBSET-026, 3.4.4.
-- Neighbours are the sending group and the first group that the packet names, and then each group that it names and the
-  next one.
-- The kilometres show which groups lie between two neighbours. If there are several, the remark names up to three.
-- The data must hold in the direction in which trains pass the group, or in either direction if that direction is not
-  known. Packets 0, 145, 254 and 255 and refused telegrams do not count as data.
-- A note counts the other groups with Q_LINK 1 that lie between neighbours without being named.
-- If one of two neighbours is not in the table, or they are on different tracks, the rule does not look for groups
-  between them.
+What it says. A group with Q_LINK 1 and data for this direction lies between two neighbours of a packet 5, and the
+packet 5 does not name the group. The rule rests on SUBSET-026, 3.4.4.
+- The first two neighbours of a packet 5 are the group that sends it and the first group that it names. The next two
+  neighbours are the first and the second group that it names, and so on.
+- The kilometres show which groups lie between two neighbours. If there are several such groups, the remark names up to
+  three.
+- The group must have data for the direction in which trains pass it. If this direction is not known, the group must
+  have data for both directions.
+- Packets 0, 145, 254 and 255 and refused telegrams do not count as data.
+- The rule does not look between two neighbours if one of them is not in the table, or if they are on different tracks.
+- A note counts the groups between neighbours that have Q_LINK 1 and are not named, and are not known to have such data.
 
-Why it matters. To be looked at: a train that uses these links ignores the group. Such a train takes a group with Q_LINK
-1 only if it is linked. So it loses the information of this group, and does not react to that.
+Why it matters. To be looked at: a train that uses these links ignores the group. Such a train uses a group with Q_LINK
+1 only if the group is linked. So the train loses the information of this group, and does not react to that.
 
 Example. Before (`examples/links/group-passed-over.csv`): A (km 10.000) links only C (km 12.000), and B (km 11.000) has
 Q_LINK 1 and is between them. After (`examples/links/line.csv`): the packet 5 of A names B and then C.
 
 When it is a false alarm. The rule assumes that trains which use a packet 5 pass all groups between those that it names.
 That is not so if a group is on another route. The remark is harmless if a later packet 5 names the group in time. The
-same holds for a group with repositioning information (packet 16), if another packet 5 leads to it by a link with NID_BG
-16,383. The rule also assumes that a group with Q_LINK 1 is for these trains. A group for level 2 or a national system
-(packet 44) is not, if the packets 5 are for level 1. Finally, it assumes that trains pass groups in the order of their
-kilometres. That is not so if the kilometres jump back and nobody stated the jump.
+remark is also harmless for a group with repositioning information (packet 16), if another packet 5 leads to this group
+by a link with NID_BG 16,383. The rule also assumes that a group with Q_LINK 1 is for these trains. A group for level 2
+or a national system (packet 44) is for other trains, if the packets 5 are for level 1. Finally, it assumes that trains
+pass groups in the order of their kilometres. That is not so if the kilometres jump back and nobody stated the jump.
 
 Usual cause. The group was added later, and the links of its neighbours were not generated again. Or the route of this
 packet 5 does not pass the group.
 
-How to correct it. Add the group to the packet 5, and correct the distance of the group after it. If trains are to take
-the group without linking, set its Q_LINK to 0.
+How to correct it. Add the group to the packet 5, and correct the distance to the next group. If trains must use the
+group without linking, set the Q_LINK of the group to 0.
 
 How to accept it. Give the route of the packet 5, or the trains that the group is for, as the reason.
 """

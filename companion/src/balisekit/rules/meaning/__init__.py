@@ -28,10 +28,32 @@ count makes the answer incomplete. `Result.of_places` has counts beside it of wh
 """
 from __future__ import annotations
 
+from typing import Iterator
+
 from balisekit.rules.discovery import rules_of
-from balisekit.rules.passed_over import Rules
+from balisekit.rules.line import Line
+from balisekit.rules.meaning.infill_signals import COMPARED
+from balisekit.rules.passed_over import PassedOver, Rules, behind_infill, notes_of, unlinked
+from balisekit.rules.telegrams import LINKING, SAYS_NOTHING
 
 RULES = rules_of(__name__, __path__)
 OF_PLACES = Rules("E12 to E19 and E22", "E12, E13, E15, E17 to E19 and E22", "E12 to E19 and E22")
 """What needs the kilometre of a group, its direction and other groups of its track."""
-__all__ = ["OF_PLACES", "RULES"]
+NOT_OF_INFILL = frozenset({*SAYS_NOTHING, 132, 137, LINKING, *COMPARED})
+"""The packets after a packet 136 that have no place, that rules L name, and that E15 compares."""
+
+
+def passed_over(line: Line) -> Iterator[PassedOver]:
+    """The groups and messages that some of these rules do not look at."""
+    yield from OF_PLACES.find(line)
+    yield from behind_infill(line, lambda number: number not in NOT_OF_INFILL, "rules E")
+    yield from unlinked(line)
+
+
+def notes_on(line: Line) -> Iterator[str]:
+    """A note for each reason. All groups without a track are named, also those that are compared with each other."""
+    others = (each for each in passed_over(line) if not OF_PLACES.is_of_track(each))
+    return notes_of([*others, *OF_PLACES.without_track(line)])
+
+
+__all__ = ["OF_PLACES", "RULES", "notes_on", "passed_over"]

@@ -70,13 +70,13 @@ def conditions_of(decoded: Decoded, numbers: AbstractSet[int]) -> Mapping[Tuple[
     found: Dict[Tuple[Lane, Kind], Dict[Tuple[int, str, int], Condition]] = {}
     for passage in decoded.passages:
         for packet in passage.said if passage.way is not None else ():
-            for place, (kind, condition) in enumerate(_of_packet(passage, packet) if packet.number in numbers else ()):
+            for place, (kind, condition) in enumerate(of_packet(passage, packet) if packet.number in numbers else ()):
                 own = found.setdefault((lane_of(passage), kind), {})
                 own[id(packet), passage.direction, place] = condition
     return {key: list(own.values()) for key, own in found.items()}
 
 
-def _of_packet(passage: Passage, packet: Packet) -> Iterator[Tuple[Kind, Condition]]:
+def of_packet(passage: Passage, packet: Packet) -> Iterator[Tuple[Kind, Condition]]:
     """The conditions of a packet that fits its layout."""
     content, layout = content_of(packet.form), LAYOUTS[packet.number]
     if content is None or content.fault:

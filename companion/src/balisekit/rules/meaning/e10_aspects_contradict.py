@@ -1,15 +1,24 @@
 """E10: aspects that contradict each other about the track.
 
-What it says. Two aspects of a group that lead to one place state different V_STATIC, or gradients more than 5 ‰ apart,
-for the same stretch of the track. The rule rests on SUBSET-026, 3.11.
-- The stretch must be longer than `--tolerance` (default 1 m) and rounding. Stretches that touch count as one.
-- If both profiles have the same Q_SCALE, and the same values in the same order up to there, both are rounded alike.
-  Then only a `--tolerance` that is stated counts.
-- A rise and a fall are different gradients.
-- The two aspects are compared as far as the packets 5 of both name the same groups, also beyond an end of authority.
-  Without packets 5 they are compared if both authorities end at the same place.
-- Nothing beyond a `point` of the track plan is compared.
-- One remark names the aspect that most others disagree with, and the longest stretch.
+What it says. Two aspects of a group state different V_STATIC, or gradients more than 5 ‰ apart, for the same stretch of
+the track. The rule compares the speed profiles (packets 27) and the gradient profiles (packets 21) of each two aspects
+in the same direction. It rests on SUBSET-026, 3.11.
+- Two aspects with packets 5 are compared as far as both name the same groups in the same order, up to the last of these
+  groups. This group can be beyond an end of authority.
+- Two aspects without packets 5 are compared if both authorities end at the same place. They are compared up to this
+  place.
+- Two aspects are not compared if only one of them has a packet 5.
+- A rise is a positive gradient, and a fall is a negative one. So +2 ‰ and -2 ‰ are 4 ‰ apart, and are not reported.
+- A remark names the aspect that differs from the greatest number of other aspects, and the longest stretch on which it
+  differs. If several aspects differ from equally many others, their order decides. Speeds and gradients get separate
+  remarks.
+- Aspects with a refused telegram are not compared.
+- A stretch that begins beyond a `point` of the track plan is not reported.
+- A stretch is not reported if it is not longer than `--tolerance` (default 1 m) and the rounding of distances.
+  Stretches that touch count as one stretch.
+- Rounding and the default of 1 m do not count if both profiles are rounded alike. They are rounded alike if they have
+  the same Q_SCALE, and the same values in the same order up to the end of the stretch. Then only a stated `--tolerance`
+  counts.
 
 Why it matters. At worst the train gets wrong information. At one of the aspects it gets a speed that is too great, or a
 gradient that is too favourable.
@@ -18,19 +27,20 @@ Example. Before (`examples/meaning/mistakes/E10.csv`): from km 13.000 to km 14.7
 km/h, and "green" has 140 km/h. After: both have 140 km/h there.
 
 When it is a false alarm. The rule assumes that aspects which name the same groups belong to one route. That is not so
-if the routes part before the last of these groups. Two routes without packets 5 might also end at the same distance by
-chance. {exact} {track speed} The profile of a stop aspect can differ too, because no train uses it.
+if their routes part before the last of these groups. Two routes without packets 5 might also end at the same distance
+by chance. {exact} {track speed} The profile of a stop aspect can differ too, because no train uses it.
 
-Usual cause. The profile of one aspect was not generated again. Or it has a wrong sign, scale or unit.
+Usual cause. The profile of one aspect was not generated again. Or the profile has a wrong sign, scale or unit.
 
 How to correct it. Correct the wrong profile according to the track plan.
 
-How to accept it. Name the routes of the two aspects, or state what V_STATIC of one of them includes.
+How to accept it. Name the routes of the two aspects, or state what the V_STATIC of one aspect includes.
 
 How sure. 87 %, by practice and memory of the standard.
 """
 from __future__ import annotations
 
+from collections import Counter
 from decimal import Decimal
 from itertools import chain, product
 from typing import Dict, Iterable, Iterator, List, Mapping, NamedTuple, Sequence, Tuple
@@ -39,9 +49,9 @@ from balisekit.etcs.variables import metres
 from balisekit.rules.decoded import Decoded, tolerance_of_lengths
 from balisekit.rules.line import Line
 from balisekit.rules.meaning.along import leaves
-from balisekit.rules.meaning.sent import are_contrary, by_culprit, contrary, distance, field_at, speed, tolerance
+from balisekit.rules.meaning.sent import are_contrary, by_culprit, contrary, distance, field_at, tolerance
 from balisekit.rules.meaning.siblings import are_rounded_alike, common_reach, with_common_reach
-from balisekit.rules.meaning.words import between, more_stretches
+from balisekit.rules.meaning.words import between, more_stretches, profile_value
 from balisekit.rules.passages import Passage
 from balisekit.rules.rule import Options, Remark, Result, Rule, Urgency
 from balisekit.rules.telegrams import GRADIENTS, LINKING, SPEEDS, Packet
@@ -50,7 +60,8 @@ from balisekit.tables.names import listed, quoted, rows_words
 
 APART = {SPEEDS: 0, GRADIENTS: 5}
 """By how much values may differ: gradients by so many per mille."""
-NAMED = 5
+NAMED, REFUSED, BEHIND_POINT = 5, "refused", "stretches beyond a point of the plan that differ"
+"""How many aspects are named, and why some are not compared."""
 
 
 class Contrary(NamedTuple):
@@ -74,6 +85,7 @@ def find(line: Line, options: Options) -> Result:
     """Compares the aspects of each group in each direction."""
     found: List[Remark] = []
     count = 0
+    left: Counter[str] = Counter()
     for data in line.decoded.controlled:
         by_direction: Dict[str, List[Passage]] = {}
         for passage in data.passages:
@@ -81,11 +93,12 @@ def find(line: Line, options: Options) -> Result:
                 by_direction.setdefault(passage.direction, []).append(passage)
         several = [some for some in by_direction.values() if len(some) > 1]
         count += bool(several)
-        found += [remark for some in several for remark in _of_group(line, options, some)]
-    return Result(found, count)
+        found += [remark for some in several for remark in _of_group(line, options, some, left)]
+        left[REFUSED] += bool(data.group.unread)
+    return Result(found, count, +left, is_optional=True)
 
 
-def _of_group(line: Line, options: Options, some: Sequence[Passage]) -> Iterator[Remark]:
+def _of_group(line: Line, options: Options, some: Sequence[Passage], left: Counter[str]) -> Iterator[Remark]:
     said = {number: [passage.of(number) for passage in some] for number in (SPEEDS, GRADIENTS)}
     differing = {number: own for number, own in said.items() if are_contrary(chain(*own), APART[number])}
     linked = [(passage, passage.of(LINKING)) for passage in some]
@@ -94,7 +107,7 @@ def _of_group(line: Line, options: Options, some: Sequence[Passage]) -> Iterator
     for own in differing.values():
         pairs: Pairs = {}
         for one, other, reach in common:
-            found = _compared(line, options, some[one], product(own[one], own[other]), reach) if reach else None
+            found = _compared(line, options, some[one], product(own[one], own[other]), reach, left) if reach else None
             if found:
                 pairs[some[one].aspect, some[other].aspect] = found
         for culprit, others in by_culprit(list(pairs)):
@@ -102,7 +115,7 @@ def _of_group(line: Line, options: Options, some: Sequence[Passage]) -> Iterator
 
 
 def _compared(
-    line: Line, options: Options, one: Passage, pairs: Iterable[Tuple[Packet, Packet]], reach: int
+    line: Line, options: Options, one: Passage, pairs: Iterable[Tuple[Packet, Packet]], reach: int, left: Counter[str]
 ) -> List[Contrary]:
     """The stretches before a point of the track plan of which both packets of a pair say different things."""
     found, stated = [], tolerance_of_lengths(options.tolerance)
@@ -114,8 +127,9 @@ def _compared(
         allowed = {end: stated if are_rounded_alike(*packets, end) else least for _, end, *_ in differing}
         for begin, end, *values in chain(*longer(differing, lambda each: each[:2], lambda each: allowed[each[1]])):
             place = one.place(begin + least)
-            if place is None or not leaves(options, line.decoded, one, place):
-                found.append(Contrary(packets, begin, end, (values[0], values[1])))
+            is_behind = place is not None and leaves(options, line.decoded, one, place)
+            left[BEHIND_POINT] += is_behind
+            found += [] if is_behind else [Contrary(packets, begin, end, (values[0], values[1]))]
     return found
 
 
@@ -126,8 +140,8 @@ def _remark(decoded: Decoded, one: Passage, pairs: Pairs, culprit: str, others: 
     other = max(others, key=lambda name: longest[name].end - longest[name].begin)
     packets, begin, end, sent = longest[other]
     said = [
-        f"{quoted(name)}{f', {rows_words([packet.row.number])},' if packet.row else ''} has {_words(packet, value)}"
-        for name, packet, value in zip((culprit, other), packets, sent)
+        f"{quoted(name)}{f', {rows_words([each.row.number])},' if each.row else ''} has {profile_value(each, value)}"
+        for name, each, value in zip((culprit, other), packets, sent)
     ]
     rest = [quoted(name) for name in others if name != other]
     sentence = (
@@ -150,10 +164,6 @@ def _remark(decoded: Decoded, one: Passage, pairs: Pairs, culprit: str, others: 
 def _facts(own: Mapping[str, Sequence[Contrary]]) -> Sequence[str]:
     """All stretches with the values of both aspects."""
     return [f"{name} {each.begin} {each.end} {each.values}" for name, some in own.items() for each in some]
-
-
-def _words(packet: Packet, value: int) -> str:
-    return f"V_STATIC {speed(value)}" if packet.number == SPEEDS else f"a gradient of {value:+} ‰" if value else "0 ‰"
 
 
 RULE = Rule("E10", "groups with several aspects", __doc__ or "", find, Urgency.WRONG_INFORMATION)

@@ -1,37 +1,49 @@
 """E12: end of authority.
 
-What it says. An authority ends at another place than the others that lead to the same group, or 50 m to 200 m from the
-nearest group. The rule rests on SUBSET-026, 3.8 and 7.4.2.
-- Authorities are packets 12 with V_MAIN above 0, and packets 15. The end counts from the kilometre of the sending
-  group, by the sum of L_SECTION and L_ENDSECTION. What follows a packet 136 is not compared.
-- An authority leads to the group in its packets 5 that is nearest to the end, if that group is at most 200 m from the
-  end. Otherwise it leads to the last of these groups before the end, if its packets 5 also name a group beyond the end.
-  The group does not count if D_LINK and the kilometres disagree by more than 200 m about its place.
-- Authorities without packets 5 are compared if their ends are near each other, each at most 20 m from the next one.
-- Ends away from groups are reported only for packets 12, between the first and the last group that gives an authority
-  for this track and way. A group is at the place of its first balise.
-- Such an end is not reported if packets 5 name a group there that is not in the table, has no kilometre or is on
-  another track.
-- The most frequent end counts as right, or else the one nearest to the group. Ends may differ by `--tolerance` (default
-  1 m) and rounding.
+What it says. An authority ends at another place than the other authorities to the same group, or 50 m to 200 m from the
+nearest group, or farther away. The rule compares the ends of authorities with each other, and each end with the places
+of groups. It rests on SUBSET-026, 3.8 and 7.4.2.
+- The rule compares the ends of all authorities that lead to one group, on one track and in one direction. The most
+  frequent end counts as right, and the rule reports each other end. If several ends are equally frequent, the end
+  nearest to the group counts as right.
+- The rule compares authorities without packets 5 with each other if each end is at most 20 m from the next end. If
+  several of these ends are equally frequent, the end at the lowest kilometre counts as right.
+- The rule reports a packet 12 whose end is 50 m to 200 m from the nearest group. It reports no packet 15 for this.
+- The rule reports an end more than 200 m from each group under two conditions. The packets 5 of the authority name a
+  group of the track beyond the end. At least four of five senders of packets 12 (or of packets 15), and at least four,
+  have ends at groups. Ends that do not meet these conditions are only counted.
+- An authority is a packet 12 with V_MAIN above 0, or a packet 15. The packets after a packet 136 are not compared.
+- The end of an authority is as far from the sending group along the kilometres as the sum of L_SECTION and
+  L_ENDSECTION. A group is at the place of its first balise.
+- An authority leads to the group in its packets 5 that is nearest to its end, if this group is at most 200 m from the
+  end. If the nearest group is farther away, the authority leads to the last group before the end. Then its packets 5
+  must also name a group beyond the end.
+- An authority leads to no group if D_LINK and the kilometres disagree by more than 200 m about the place of the group.
+- An end away from groups is reported only between the first and the last group that gives an authority for this track
+  and direction.
+- An end more than 200 m from each group is not reported if V_LOA is above 0.
+- An end away from groups is not reported if packets 5 name a group there whose place on this track the table does not
+  show. That group is not in the table, has no kilometre, or is on another track.
+- An end beyond a `point` of the track plan is not compared.
+- Two ends are at the same place if they differ by at most `--tolerance` (default 1 m) and rounding.
 
-Why it matters. At worst the train gets wrong information, and might pass the signal at which it has to stop. Or it
-stops some metres in rear of the signal.
+Why it matters. At worst the train gets wrong information, and might pass the signal at which it has to stop. Or the
+train stops some metres in rear of the signal.
 
 Example. Before (`examples/meaning/mistakes/E12.csv`): at "green" the authority of Signal 3 ends at km 16.050, and 1
 other authority that leads to Signal 5 ends at km 16.000. After: L_ENDSECTION of "green" is 50 m shorter.
 
 When it is a false alarm. The rule assumes that all authorities to one group end at one place. An authority for a
-calling-on route, with a limit of authority (V_LOA above 0), or by radio up to a marker board can end elsewhere. The
-same holds for an authority that ends at a signal up to 200 m beyond the last group in its packets 5. The rule also
-assumes that each authority ends at a group. In limited supervision an authority might end elsewhere. It might also end
-at a buffer stop, a board or a border that has no group of the table or of a packet 5 within 50 m. {leaving} {points}
-{kilometres} {one way}
+calling-on route, with a limit of authority (V_LOA above 0), or by radio up to a marker board can end elsewhere. An
+authority can also end at a signal up to 200 m beyond the last group in its packets 5. The rule also assumes that each
+authority ends at a group. In limited supervision an authority might end elsewhere. An authority might also end at a
+buffer stop, a board or a border. Such a place need not have a group of the table or of a packet 5 within 50 m.
+{leaving} {points} {kilometres} {one way}
 
-Usual cause. A length was typed wrongly, or has a wrong Q_SCALE. Or a signal was moved, and not all groups in rear of it
-were changed.
+Usual cause. A length was typed wrongly, or has a wrong Q_SCALE. Or a signal was moved, and not all groups in rear of
+the signal were changed.
 
-How to correct it. Correct the sum of the lengths, so that it is the distance to the signal.
+How to correct it. Correct the lengths. Their sum must be the distance to the signal.
 
 How to accept it. Name what is at the end of this authority, for example a buffer stop or a marker board.
 
@@ -45,14 +57,13 @@ from typing import Dict, Iterator, List, Optional, Sequence, Tuple
 
 from balisekit.etcs.variables import metres
 from balisekit.rules.decoded import Decoded
-from balisekit.rules.facts import counted, group_words, sender
+from balisekit.rules.facts import counted, sender
 from balisekit.rules.line import Line
 from balisekit.rules.location import BEHIND_POINT, BaliseGroup
 from balisekit.rules.meaning.along import (
     End,
     Lane,
     ends_of,
-    extents_of,
     is_authority,
     is_named,
     lane_of,
@@ -60,11 +71,10 @@ from balisekit.rules.meaning.along import (
     parts,
     passed_over,
 )
+from balisekit.rules.meaning.ends_between import ends_between, inside_the_line, near_a_group
 from balisekit.rules.meaning.words import at_place, merged, source
 from balisekit.rules.rule import Options, Remark, Result, Rule, Urgency
-from balisekit.rules.telegrams import allowance
 
-NOWHERE = (1, 0)
 NEAR, STANDS, ALONE = 2000, 500, 200
 """In decimetres: how near a group is to its end, how near one has to be, and how near ends without links are."""
 
@@ -95,12 +105,13 @@ def find(line: Line, options: Options) -> Result:
     for some in unlinked.values():
         for part in parts(sorted(some, key=lambda each: each.place), ALONE):
             found.update((end.key, remark) for end, remark in _compare(decoded, options, part))
-    extents = extents_of(decoded) if ends else {}
-    for lane, end in ends:
-        low, high = extents.get(lane, NOWHERE)
-        if end.key not in found and low <= end.place <= high:
-            found.update((end.key, remark) for remark in _between(decoded, options, end))
-    return Result.of_places(merged(found.values()), looked_at, passed_over(decoded, is_authority), beyond)
+    inside = [end for end in inside_the_line(decoded, ends) if end.key not in found]
+    for end in inside:
+        found.update((end.key, remark) for remark in near_a_group(decoded, options, end))
+    away = ends_between(decoded, options, inside)
+    found.update(away.found)
+    lacks, looked_at = passed_over(decoded, is_authority), looked_at - sum(away.left.values())
+    return Result.of_places(merged(found.values()), looked_at, lacks, {**beyond, **away.left})
 
 
 def _target(end: End) -> Optional[BaliseGroup]:
@@ -143,23 +154,6 @@ def _compare(
         values = {"end_m": Decimal(end.place) / 10, "other_end_m": Decimal(usual.place) / 10}
         compared = [usual.passage.at(usual.packet)]
         yield end, Remark("E12", end.passage.at(end.packet), sentence, None, values, compared=compared, facts=facts)
-
-
-def _between(decoded: Decoded, options: Options, end: End) -> Iterator[Remark]:
-    """An end of a packet 12 that is near a group, and not at it."""
-    group = decoded.nearest(end.passage.track, end.place)
-    if end.packet.number != 12 or group is None or group.place is None:
-        return
-    apart = abs(group.place - end.place)
-    tolerance = decoded.tolerance(options.tolerance_of_places, allowance(end.packet, end.packet.lengths))
-    if STANDS + tolerance < apart <= NEAR:
-        sentence = (
-            f"the authority ends at {at_place(decoded, end.passage, end.place)} by L_SECTION and L_ENDSECTION: the "
-            f"nearest group by the kilometres, {group.group}, is {metres(apart)} from there"
-        )
-        values = {"end_m": Decimal(end.place) / 10, "nearest_group_m": Decimal(group.place) / 10}
-        facts = [group_words(group.group)]
-        yield Remark("E12", end.passage.at(end.packet), sentence, group.group, values, facts=facts)
 
 
 RULE = Rule("E12", "ends of authority", __doc__ or "", find, Urgency.WRONG_INFORMATION, needs_kilometres=True)

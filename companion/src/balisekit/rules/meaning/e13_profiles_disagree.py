@@ -3,32 +3,45 @@
 What it says. Two neighbouring groups describe the same stretch of the track with different speeds or gradients. Speeds
 differ if V_STATIC is not the same, and gradients differ if they are more than 5 ‰ apart. The rule rests on SUBSET-026,
 3.11.3 and 3.11.12.
-- Every aspect of the one group must differ from every aspect of the other one.
-- The stretch on which they differ must be longer than `--tolerance` (default 1 m) and rounding. Stretches that touch
-  count as one.
 - Two groups are neighbours if they are on the same track, and no group between them describes the stretch for trains
-  that run the same way.
+  that run the same way. From each group, the rule looks at the next eight groups ahead that have such a profile.
+- A stretch is reported if each aspect of one group that describes the stretch differs from each such aspect of the
+  other group.
 - If only some aspects of the group in rear have packets 5 that name the group ahead, only these aspects are compared.
-- Groups with a refused telegram do not count.
-- If a group differs from its neighbours on both sides, the remark is on this group.
-- Q_FRONT is compared at each step up of V_STATIC that two telegrams give at one place, with the same two speeds. These
-  can also be two aspects of one group. The most frequent Q_FRONT counts as right.
+- Of two groups that differ, the remark is on the group that differs from more neighbours.
+- If both groups differ from equally many neighbours, the remark is on the group in rear. It is on the group ahead if
+  only the values of that group look like a usual mistake, such as a wrong Q_GDIR. Of a group and a message, it is on
+  the message.
+- The profiles of a message 3 are compared with the profiles of the group from which they count, and of the groups
+  ahead. If the group from which they count has no profile, the next group in rear whose profile reaches there is
+  compared.
+- Q_FRONT is compared if two profiles let V_STATIC rise at one place, from the same speed to the same higher speed. The
+  two profiles can also be of two aspects of one group.
+- The most frequent Q_FRONT at this place counts as right. If two values of Q_FRONT are equally frequent there, the
+  value that is more frequent in the table counts as right.
+- A stretch is not reported if it is not longer than `--tolerance` (default 1 m) and rounding. Stretches that touch
+  count as one stretch.
+- A stretch that begins beyond a `point` of the track plan is not compared.
+- Groups with a refused telegram are not compared.
+- If at least four profiles of messages 3 are compared and more than half of them differ, the differing profiles are not
+  reported. They are counted as not compared.
 
-Why it matters. At worst the train gets wrong information: it might go too fast, or brake too late on a slope. It goes
-by the profile that it got last, which might be the wrong one. By a wrong Q_FRONT it runs faster while its rear is still
-on the stretch with the lower speed.
+Why it matters. At worst the train gets wrong information: it might go too fast, or brake too late on a slope. The train
+goes by the profile that it got last, which might be the wrong profile. By a wrong Q_FRONT the train runs faster while
+its rear is still on the stretch with the lower speed.
 
 Example. Before (`examples/meaning/mistakes/E13.csv`): from km 13.000 to km 14.700 Signal 3 has a gradient of +18 per
 mille, and Signal 2 has -18 per mille. After: Q_GDIR of Signal 3 is corrected, and both have -18 per mille.
 
-When it is a false alarm. {exact} Some projects also let a new speed begin 20 m early on purpose. {track speed}
-Q_FRONT might depend on the route or the aspect. {leaving} {points} {kilometres} {missing} {one way}
+When it is a false alarm. {exact} Some projects also let a new speed begin 20 m early on purpose. {track speed} Q_FRONT
+might depend on the route or the aspect. A few radio messages might have another speed than the telegrams, such as for
+trains in level 2. {leaving} {points} {kilometres} {missing} {one way}
 
 Usual cause. V_STATIC is in km/h, or Q_SCALE or Q_GDIR is wrong. Or a speed or a gradient was changed in one group only.
 
 How to correct it. Correct the wrong profile according to the track plan.
 
-How to accept it. State which of the two profiles is exact, and why the other one might differ.
+How to accept it. State which of the two profiles is exact, and why the other profile might differ.
 
 How sure. 87 %, by practice and memory of the standard.
 """
@@ -36,24 +49,15 @@ from __future__ import annotations
 
 from collections import Counter
 from decimal import Decimal
-from typing import Dict, Iterator, List, NamedTuple, Sequence, Tuple
+from typing import Dict, Iterator, List, Sequence, Tuple
 
 from balisekit.rules.decoded import Decoded
 from balisekit.rules.line import Line
-from balisekit.rules.meaning.along import leaves
+from balisekit.rules.location import NO_TRACK
+from balisekit.rules.meaning.differences import Difference, differences_of
 from balisekit.rules.meaning.fronts import fronts
-from balisekit.rules.meaning.profiles import (
-    Aspect,
-    Piece,
-    Profiles,
-    cause_of,
-    lanes_of,
-    long_pieces,
-    longest_difference,
-    pairs,
-    pieces_of,
-    unplaced_of,
-)
+from balisekit.rules.meaning.message_profiles import MOST, beside_groups, differing_messages
+from balisekit.rules.meaning.profiles import Aspect, Piece, cause_of, lanes_of, pairs, unplaced_of
 from balisekit.rules.meaning.sent import field_at
 from balisekit.rules.meaning.words import more_stretches, source
 from balisekit.rules.rule import Options, Remark, Result, Rule, Urgency
@@ -63,49 +67,27 @@ ALONE = "the only group of its track"
 """Why profiles are compared with no others."""
 
 
-class Difference(NamedTuple):
-    """Two groups that differ on some stretches."""
-
-    rear: Profiles
-    ahead: Profiles
-    pieces: Sequence[Piece]
-    """The longest one first. Their places count in the direction of passage."""
-
-
 def find(line: Line, options: Options) -> Result:
-    """Compares the profiles of each group with those of the groups ahead."""
+    """Compares the profiles of each group with those of the groups ahead, and those of messages with groups."""
     decoded, looked_at = line.decoded, 0
     found: List[Remark] = []
-    alone: Counter[str] = Counter()
+    others: Counter[str] = Counter()
     for number in (SPEEDS, GRADIENTS):
+        differences: List[Difference] = []
         for (track, _), lane in lanes_of(decoded)[number].items():
             if len(decoded.along[track]) == 1 < len(decoded.along):
-                alone[ALONE] += len(lane)
+                others[ALONE if track else NO_TRACK] += len(lane)
                 continue
-            differences = [each for one in pairs(lane) for each in _difference(decoded, options, *one)]
+            differences += [each for one in pairs(lane) for each in differences_of(decoded, options, *one, others)]
             looked_at += len(lane)
-            found += list(_remarks(decoded, differences))
-    found += fronts(decoded, options)
-    return Result.of_places(found, looked_at, Counter(unplaced_of(decoded, SPEEDS, GRADIENTS).values()), alone)
-
-
-def _difference(decoded: Decoded, options: Options, rear: Profiles, ahead: Profiles, low: int) -> Iterator[Difference]:
-    """The stretches on which two groups differ."""
-    high = min(rear.reach, ahead.reach)
-    allowed, longest = 0, longest_difference(rear.longest, ahead.longest, low, high)
-    if longest and max(rear.first, ahead.first) <= max(low, ahead.begin):
-        # (where both hold all the way, no piece is longer than what these two profiles differ on)
-        allowed = decoded.tolerance(options.tolerance_of_places, rear.unit, ahead.unit)
-    if longest <= allowed and rear.names(ahead, decoded):
-        return
-    stays = [
-        piece
-        for piece in pieces_of(rear.naming(ahead, decoded), ahead.aspects, low, high)
-        if not leaves(options, decoded, piece.rear.passage, piece.low * rear.way)
-    ]
-    pieces = long_pieces(decoded, options, stays)
-    if pieces:
-        yield Difference(rear, ahead, sorted(pieces, key=lambda each: each.low - each.high))
+        messages = beside_groups(decoded, number)
+        differing, count = differing_messages(decoded, options, messages, others)
+        others.update({**messages.left, MOST: len(messages.pairs) - count})
+        looked_at += count
+        found += list(_remarks(decoded, [*differences, *differing]))
+    found += fronts(decoded, options, others)
+    lacks = Counter(unplaced_of(decoded, SPEEDS, GRADIENTS).values())
+    return Result.of_places(found, looked_at, lacks, +others)
 
 
 def _remarks(decoded: Decoded, differences: Sequence[Difference]) -> Iterator[Remark]:
@@ -118,10 +100,7 @@ def _remarks(decoded: Decoded, differences: Sequence[Difference]) -> Iterator[Re
     for each in differences:
         is_rear = counts[id(each.rear)] >= counts[id(each.ahead)]
         if counts[id(each.rear)] == counts[id(each.ahead)]:
-            piece = each.pieces[0]
-            is_rear = bool(
-                cause_of(each.rear, each.ahead, piece, True) or not cause_of(each.ahead, each.rear, piece, False)
-            )
+            is_rear = each.rear_looks_wrong
         by_group.setdefault(id(each.rear if is_rear else each.ahead), []).append((each, is_rear))
     for some in by_group.values():
         yield _remark(decoded, some)

@@ -40,7 +40,7 @@ from typing import Iterator, Optional, Sequence, Tuple
 
 from balisekit.etcs.variables import metres
 from balisekit.rules.line import Line
-from balisekit.rules.location import Location
+from balisekit.rules.location import ANOTHER_TRACK, Location
 from balisekit.rules.link_steps import Jump, Step, jumps_of, steps_of
 from balisekit.rules.links import l2_distance
 from balisekit.rules.meaning.words import balises_of
@@ -74,7 +74,7 @@ def find(line: Line, options: Options) -> Result:
     for step in within:
         if step.here.track not in many:
             found += _remarks(line, step, least)
-    return Result(found, sum(len(each.chains) for each in steps), skipped, notes)
+    return Result(found, sum(len(each.chains) for each in steps), skipped, notes, usual=frozenset({ANOTHER_TRACK}))
 
 
 def _explains(jump: Jump, step: Step, tolerance: int) -> bool:

@@ -1,16 +1,24 @@
 """E15: infill that is not its signal.
 
 What it says. A packet 12, 21, 27 or 80 after a packet 136 differs from the same packet of the signal, in the aspect of
-the same name. The signal is the group that the packet 136 names. The proved program does not decode packets 80 and 136:
-balisekit decodes them by layouts of its own. The rule rests on SUBSET-026, 3.6.2 and 7.4.2.
-- A signal that is in rear of the infill, or not in the table, is reported too.
-- A missing signal gets only a note if it might be a group of which no telegram could be read. It also gets only a note
-  if no group ahead of the infill gives an authority in its direction, because the signal might be beyond the table.
-- The packets are compared for the direction in which the train passes the signal.
+the same name. The signal is the group that the packet 136 names. The rule rests on SUBSET-026, 3.6.2 and 7.4.2.
+- The packets of infill and signal are compared for the direction in which the train passes the signal.
+- A remark names the first field of each packet that differs, and counts the other fields that differ.
 - Distances are compared in metres. If Q_SCALE differs, they may differ by the greater unit. Sections without timers are
   compared by the sum of their lengths.
-- Q_DIR and Q_SCALE are not compared, nor the Q_GDIR of a G_A 0 or 255, nor the Q_FRONT and V_DIFF of a V_STATIC 127.
-- A packet that only one of the two groups has is not compared. Nor is an aspect whose name the signal does not have.
+- The rule also reports a packet 136 that names a group of the same track in rear of the infill, or at the kilometre of
+  the infill.
+- The rule also reports a packet 136 that names a group which is not in the table. A packet 136 with NID_BG 16,383 is
+  not reported.
+- A missing signal gets only a note if it might be a group of which no telegram could be read.
+- A missing signal also gets only a note if no group ahead of the infill gives an authority in the direction of the
+  infill. Then the signal might be beyond the table. The same holds if the place or the direction of the infill is not
+  known.
+- Some fields are not compared: Q_DIR, Q_SCALE, the Q_GDIR of a G_A 0 or 255, and the Q_FRONT and V_DIFF of a V_STATIC
+  127.
+- A packet that only the infill or only the signal has is not compared. An aspect of the infill whose name the signal
+  does not have is not compared either.
+- The proved program does not decode packets 80 and 136. For this, balisekit has layouts of its own.
 
 Why it matters. At worst the train gets wrong information: it releases its brake for an aspect that the signal does not
 show.
@@ -20,13 +28,14 @@ Signal 4 (km 14.500) has 1,500 m. After: both have 1,500 m.
 
 When it is a false alarm. The rule assumes that an aspect name means the same at the infill and at its signal. That is
 not so if the names are numbers, or if the infill has the names of a distant signal. It assumes that infill repeats its
-signal. A project might say less on purpose, with a lower V_MAIN, shorter or merged profiles, or other timers. Infill
-for a signal at danger might also have a V_MAIN above 0 and no length. It assumes that the table has the signal, which
-is not so on a branch line. The rule also assumes that infill and signal face the same way, if no packet 5 names the
-signal and the kilometres do not show its direction. The same holds for a signal on another track that no packet 5
-names. A loop between the two groups can mislead the rule. {kilometres} {one way}
+signal. A project might send less in the infill on purpose, with a lower V_MAIN, shorter or merged profiles, or other
+timers. Infill for a signal at danger might also have a V_MAIN above 0 and no length. It assumes that the table has the
+signal. That is not so if the signal is on a branch line outside the table. The rule also assumes that infill and signal
+face the same way, if nothing shows their directions. The kilometres of one track show them, and so does a packet 5 that
+names the signal. A signal on another track might face the other way. A loop between the two groups can mislead the
+rule. {kilometres} {one way}
 
-Usual cause. The infill was not changed with its signal. Or it was copied from the wrong aspect.
+Usual cause. The infill was not changed with its signal. Or the infill was copied from the wrong aspect.
 
 How to correct it. If the signal is right, copy its packets after the packet 136, aspect by aspect.
 
@@ -36,29 +45,31 @@ How sure. 88 %, by practice and memory of the standard.
 """
 from __future__ import annotations
 
+from collections import Counter
 from decimal import Decimal
 from typing import Dict, Iterator, List, Optional, Tuple
 
-from balisekit.etcs.geometry import DIRECTIONS, NOMINAL, REVERSE
 from balisekit.etcs.variables import metres
-from balisekit.rules.decoded import Decoded
 from balisekit.rules.line import NOWHERE, Line
 from balisekit.rules.location import NOT_KNOWN, Identity, Location
 from balisekit.rules.meaning.along import Extent, extents_of, lane_of, rear
 from balisekit.rules.meaning.fields import fields_apart
+from balisekit.rules.meaning.infill_signals import COMPARED, are_others, signal_of
 from balisekit.rules.meaning.words import merged, source
 from balisekit.rules.passages import GroupData, Passage
 from balisekit.rules.rule import Field, Options, Remark, Result, Rule, Urgency
 from balisekit.rules.telegrams import Packet
-from balisekit.tables.names import clean, describe_identity
+from balisekit.tables.names import clean, counted, describe_identity
 
-COMPARED = (12, 21, 27, 80)
 NO_ASPECT = "no such aspect of the signal"
+NO_PACKET = "packets of only one of the two"
+"""Why infill is not compared, or not in full."""
 
 
 def find(line: Line, options: Options) -> Result:
     """Looks at what follows each packet 136."""
-    decoded, found, looked_at, skipped = line.decoded, [], 0, 0
+    decoded, found, looked_at = line.decoded, [], 0
+    skipped: Counter[str] = Counter()
     unknown: List[Tuple[Passage, Packet, Identity]] = []
     for passage in decoded.passages:
         reference = passage.reference
@@ -67,8 +78,10 @@ def find(line: Line, options: Options) -> Result:
             identity = reference.form.get("nid_c", country), reference.form["nid_bg"]
             target = decoded.by_identity.get(identity)
             if target is not None:
-                signal = _signal(decoded, passage, target)
-                looked_at, skipped = looked_at + (signal is not None), skipped + (signal is None)
+                signal = signal_of(decoded, passage, target)
+                looked_at += signal is not None
+                skipped[NO_ASPECT] += signal is None
+                skipped[NO_PACKET] += signal is not None and are_others(passage, signal)
                 ahead = list(_ahead(passage, passage.group, reference, target))
                 found += ahead or list(_differences(signal, passage, target))
             elif identity[1] != NOT_KNOWN:
@@ -85,7 +98,8 @@ def find(line: Line, options: Options) -> Result:
             looked_at += 1
             values = {"nid_c": Decimal(identity[0]), "nid_bg": Decimal(identity[1])}
             found.append(Remark("E15", passage.at(reference), words, None, values))
-    result = Result.of_places(merged(found), looked_at, {}, {NO_ASPECT: skipped})
+    looked_at -= skipped[NO_PACKET]
+    result = Result.of_places(merged(found), looked_at, {}, +skipped)
     return result._replace(notes=sorted(notes))
 
 
@@ -113,23 +127,6 @@ def _ahead(passage: Passage, group: GroupData, reference: Packet, target: GroupD
         yield Remark("E15", passage.at(reference), sentence, target.group, {"ahead_m": Decimal(ahead) / 10})
 
 
-def _signal(decoded: Decoded, passage: Passage, target: GroupData) -> Optional[Passage]:
-    """What the train gets from the named group, in the aspect with the same name.
-
-    A passage whose way is not known goes towards the named group.
-    """
-    way, here = passage.way, passage.group
-    on_track = here is not None and here.group.track == target.group.track
-    if way is None and here and on_track and None not in (here.place, target.place):
-        way = 1 if (target.place or 0) > (here.place or 0) else -1
-    shown = next((each for each in DIRECTIONS if way and target.group.along(each) == way), passage.direction)
-    if not on_track or way is None or target.group.rising is None:
-        links = (link for link in passage.links if link.target is target.group)
-        shown = next((NOMINAL if link.nominal else REVERSE for link in links), shown)
-    same = (each for each in target.passages if each.aspect == passage.aspect and each.direction == shown)
-    return next(same, None)
-
-
 def _differences(signal: Optional[Passage], passage: Passage, target: GroupData) -> Iterator[Remark]:
     """One remark on all packets of an aspect that differ from those of the signal."""
     words: List[str] = []
@@ -146,7 +143,8 @@ def _differences(signal: Optional[Passage], passage: Passage, target: GroupData)
                 apart = differing[0]
                 first = first or packet
                 of = f"packet {number} of {source(signal, other)}" if not words else f"packet {number} there"
-                words.append(f"{apart.name} is {apart.own} in the infill, and {apart.other} in {of}")
+                more = f" (and {counted(len(differing) - 1, 'field')} more of it)" if differing[1:] else ""
+                words.append(f"{apart.name} is {apart.own} in the infill, and {apart.other} in {of}{more}")
                 values = {**apart.values, **values}
                 compared.append(signal.at(other))
                 facts += [f"{number} {each.name} {each.own} {each.other}" for each in differing]

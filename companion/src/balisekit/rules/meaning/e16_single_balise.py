@@ -2,24 +2,26 @@
 
 What it says. Packets 5 lead past a single balise that none of them names, or they disagree about its direction. A
 single balise is a group of one balise. The rule rests on SUBSET-026, 3.4.2 and 3.4.4.
-- A packet 5 leads past the balise if its group is in rear of the balise, and its last link is beyond the kilometre of
-  the balise. The packet 5 must be for trains that run in the direction of the balise's own packet.
+- A packet 5 leads past the balise if it is sent in rear of the balise, and its last link is beyond the kilometre of the
+  balise. The packet 5 must be for trains that run in the direction of the balise's own packet. If this direction along
+  the kilometres is not known, trains of both directions count.
 - A balise that no packet 5 names is reported only if it has Q_LINK 1 and a packet for only one direction. Packets 44,
-  145 and 254 do not count. Rule L5 reports single balises with Q_LINK 0.
-- A balise that no packet 5 names also gets no remark if a group at most 10 km in rear has a refused telegram. That
-  telegram might name the balise.
-- A packet 5 that ends with a link to NID_BG 16,383 might mean an unnamed balise with packet 16 (repositioning
-  information) at most 500 m away. Such a balise gets no remark. The same holds if such a link is on another track, or
-  from a group without a known place or direction.
-- A direction by packets 5 that differs from the column `nominal` is reported too.
+  145 and 254 do not count as such a packet. Rule L5 reports single balises with Q_LINK 0.
+- The rule also reports a balise if the packets 5 that name it give it both directions.
+- The rule also reports a balise if the packets 5 that name it give it another direction than the column `nominal`.
+- A balise that no packet 5 names is not reported if a group at most 10 km in rear has a refused telegram. That telegram
+  might name the balise.
+- A balise with packet 16 (repositioning information) is not reported if a packet 5 might lead to it by a last link with
+  NID_BG 16,383. This link leads to a place at most 500 m away, is on another track, or is from a group whose place or
+  direction is not known.
 
-Why it matters. At worst the train gets wrong information. It learns the direction of a single balise by linking, or by
-radio in level 2. If it does not know the direction, it ignores packets that hold in only one direction. If it has the
-wrong direction, it uses the packets for the other one.
+Why it matters. At worst the train gets wrong information. The train learns the direction of a single balise by linking,
+or by radio in level 2. If the train does not know the direction, it ignores packets that hold in only one direction. If
+the train has the wrong direction, it uses the packets for the other direction.
 
 Example. Before (`examples/meaning/mistakes/E16.csv`): a single balise at km 15.600 has a packet 12 for the nominal
-direction, and packets 5 of other groups lead past it and do not name it. After: the packets 5 of Signals 3 and 4 name
-the balise.
+direction. Packets 5 of other groups lead past this balise and do not name it. After: the packets 5 of Signals 3 and 4
+name the balise.
 
 When it is a false alarm. The rule assumes that the table has all links. On a line with level 2, radio might send other
 links. Groups beyond the table might also name the balise. It assumes that packets 5 which lead past a balise are for
@@ -30,8 +32,8 @@ by the kilometres reach the balise from the same side. That is not so on a ballo
 Usual cause. The link to an infill balise was forgotten. Or Q_LINKORIENTATION was copied from another link. Or the
 column `nominal` was filled in for the other direction.
 
-How to correct it. Name the balise in the packets 5 of the groups before it, and give all these links one orientation.
-If the column `nominal` is wrong, correct the column.
+How to correct it. Name the balise in the packets 5 that lead past it, and give all these links one orientation. If the
+column `nominal` is wrong, correct the column.
 
 How to accept it. State how a train learns the direction of this balise, for example by radio.
 

@@ -2,16 +2,18 @@
 
 What it says. A packet 12 with V_MAIN above 0 ends more than 50 m beyond the last group that packets 5 name, although
 another linked group follows. The rule rests on SUBSET-026, 3.4.4.
-- The packets 5 of all aspects of the group count, and those of the groups before it on that track and way. If the
-  direction of a group is not known, its first link shows it. Packets 5 after a packet 136 do not count.
+- The packets 5 of all aspects of the group that sends the packet 12 count, and those of the groups before it on that
+  track and way. If the direction of a group is not known, its first link shows it. Packets 5 after a packet 136 do not
+  count.
 - D_LINK shows the place of a linked group that has no kilometre.
 - A linked group follows if it has Q_LINK 1, and packets for that direction other than 0, 145, 254 and 255. It can be up
   to 50 m beyond the end of the authority.
+- A remark names the first five groups without a link, and counts the others.
 - Nothing is reported if the authority ends beyond the last such group of its track and way.
-- Nothing is reported if the last link is NID_BG 16,383, because the group with repositioning information there names
-  the next ones.
-- Nothing is reported if this group has a refused telegram. The same holds if a group before it has one and is at most
-  10 km in rear of the end.
+- Nothing is reported if the last link of a packet 5 of its message is NID_BG 16,383. Then a group with repositioning
+  information names the next groups.
+- Nothing is reported if the group with the packet 12, or a group before it, has a refused telegram. Only groups at most
+  10 km in rear of the end of the authority count here.
 - A table with such an authority but without any packet 5 gets one remark, if nothing in it was refused.
 
 Why it matters. At worst the train has a wrong position. Nothing shows that it missed such a group, and it does not
@@ -37,19 +39,23 @@ How sure. 86 %, by practice and memory of the standard.
 from __future__ import annotations
 
 from decimal import Decimal
-from typing import Iterator
+from typing import Iterator, Sequence
 
 from balisekit.etcs.variables import metres
 from balisekit.rules.decoded import Decoded
-from balisekit.rules.facts import sender
+from balisekit.rules.facts import group_words, sender
 from balisekit.rules.line import Line
-from balisekit.rules.location import NOT_KNOWN
+from balisekit.rules.location import NOT_KNOWN, BaliseGroup
 from balisekit.rules.meaning.along import FAR, End, ends_of, is_authority, lane_of, leaves, passed_over, rear, unread_of
 from balisekit.rules.meaning.reach import LESS, Reach, lanes_of_links
 from balisekit.rules.meaning.words import merged
 from balisekit.rules.passages import GroupData, Passage
 from balisekit.rules.rule import Options, Remark, Result, Rule, Urgency
 from balisekit.rules.telegrams import LINKING
+from balisekit.tables.names import counted, listed
+
+NAMED = 5
+"""How many groups without a link are named. The others are counted."""
 
 
 def find(line: Line, options: Options) -> Result:
@@ -61,7 +67,10 @@ def find(line: Line, options: Options) -> Result:
         if line.lost_messages or any(unread_of(decoded)):
             return Result([], 0, lacks)
         before = " before a packet 136" if any(decoded.sent(LINKING)) else ""
-        sentence = f"no group or message has a packet 5 (linking){before}, and authorities have a V_MAIN above 0"
+        count, have = counted(len(ends), "authority", "authorities"), "has" if len(ends) == 1 else "have"
+        groups = counted(len({id(end.passage.group) for end in ends}), "group")
+        words = f"no group or message has a packet 5 (linking){before}"
+        sentence = f"{words}, and {count} of {groups} {have} a V_MAIN above 0"
         facts = [sender(end.passage, end.packet) for end in ends]
         return Result([Remark("E17", ends[0].passage.at(), sentence, facts=facts)], len(ends), lacks)
     lanes, known = lanes_of_links(decoded), [end for end in ends if not _may_be_linked(line, end)]
@@ -92,14 +101,25 @@ def _look_at(decoded: Decoded, options: Options, lane: Reach, end: End) -> Itera
     reach = lane.at(begin)
     if reach >= place - LESS or not lane.groups or place > lane.groups[-1] or _is_repositioned(passage):
         return
-    if lane.group_between(reach, place + LESS) and not leaves(options, decoded, passage, end.place):
+    places = lane.groups_between(reach, place + LESS)
+    if places and not leaves(options, decoded, passage, end.place):
+        missed = _missed(decoded, passage, places)
         linked = f"lead to {decoded.km(passage.track, reach * way)} only" if reach > begin else "lead no farther"
         sentence = (
             f"the authority ends at {decoded.km(passage.track, end.place)}, and the packets 5 of this group and of "
-            f"those before it {linked}: the last {metres(place - reach)} are without links"
+            f"those before it {linked}: the last {metres(place - reach)} are without links, although "
+            f"{listed(list(map(str, missed)), NAMED)} follow{'s' if len(places) == 1 else ''}"
         )
         values = {"end_m": Decimal(end.place) / 10, "links_to_m": Decimal(reach * way) / 10}
-        yield Remark("E17", passage.at(end.packet), sentence, None, values)
+        facts = [group_words(group) for group in missed]
+        yield Remark("E17", passage.at(end.packet), sentence, None, values, facts=facts)
+
+
+def _missed(decoded: Decoded, passage: Passage, places: Sequence[int]) -> Sequence[BaliseGroup]:
+    """The linked groups at these places, which count along the way, in the order in which trains meet them."""
+    at = sorted({place * (passage.way or 0) for place in places})
+    own = [data.group for place in at for data in decoded.between(passage.track, place, place) if data.group.linked]
+    return own if passage.way == 1 else own[::-1]
 
 
 RULE = Rule("E17", "authorities", __doc__ or "", find, Urgency.WRONG_PLACE, needs_kilometres=True)

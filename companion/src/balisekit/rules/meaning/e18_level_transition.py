@@ -4,36 +4,44 @@ What it says. The packets 41 for one level transition contradict each other, or 
 announced place. The rule rests on SUBSET-026, 5.10 and 7.4.2.
 - A packet 41 with D_LEVELTR 0 or 32,767 (now) is an order at its group. Any other packet 41 is an announcement, and
   D_LEVELTR leads to its place.
+- Places: all announcements and orders of one transition must have one place. Places may differ by `--tolerance`
+  (default 1 m) and rounding.
+- Levels: all announcements and orders of one transition must have the same M_LEVELTR and NID_NTC in the same order.
+- L_ACKLEVELTR: announcements of one place with the same levels must have the same L_ACKLEVELTR.
+- Missing order: announcements between the first and the last group of the track need an order within 500 m of their
+  place. One remark names all packets that announce this place.
 - Packets for trains that run the same way on the same track belong to one transition if each place is at most 500 m
   from the next one.
-- Places may differ by `--tolerance` (default 1 m) and rounding. M_LEVELTR and NID_NTC must be the same in the same
-  order.
-- If there are several orders, the one with the most announcements of its place counts as right, or else the first one
-  that a train passes. If there is no order, the most frequent place counts.
-- A later order with the same levels is not reported, because it repeats the first one.
-- Announcements of one place with the same levels must have the same L_ACKLEVELTR.
-- An order is only required between the first and the last group of the track.
-- A missing order is not reported if it might be in a group whose direction or place is unknown, or which has a refused
-  telegram. The same holds if the packets 5 of the announcement lead to another track, where the order might be.
+- The place and levels of the order count as right. If there are several orders, the order with the most announcements
+  of its place counts. Of orders with equally many announcements, the first order that a train passes counts. Without an
+  order, the most frequent place counts.
+- A later order with the same levels is not reported, because it repeats the first order.
+- An announcement is counted as not compared if packets 5 sent with it lead to another track before the announced place.
+- A missing order is not reported if a group near the place might have the order. Such a group has a refused telegram,
+  or it orders a level and its direction is unknown. If the kilometre of such a group is unknown, the group counts as
+  near. In the same way, an announcement that leads to such a group in front of the order is not reported.
+- A missing order is not reported if packets 5 sent with the announcement lead to another track beyond the announced
+  place. The order might be on that track.
 - Rule E5 reports a packet 41 with a distance for both directions.
 
 Why it matters. At worst the train gets wrong information. A driver acknowledges at one place, and the train changes its
-level at another. Or it goes on in a level that the track there does not support.
+level at another. Or the train goes on in a level that the track there does not support.
 
 Example. Before (`examples/meaning/mistakes/E18.csv`): by D_LEVELTR 2,250 m Signal 4 announces the level transition at
 km 16.750, and the group Border orders it at km 16.700. After: D_LEVELTR is 2,200 m.
 
 When it is a false alarm. The rule assumes that all packets 41 within 500 m are for one border. There might be two
-borders, one of them on another route, or orders for trains that start there. It assumes that all of them lead to one
-place. A packet with D_LEVELTR 0 or 32,767 might be some metres from the border. It assumes that all of them have the
-same levels, but announcement and border might differ on purpose. It assumes that drivers acknowledge in one area, but
-L_ACKLEVELTR might depend on the speed at each signal. It assumes that a group of the table orders the
-change, but the last announcement might be the only order. Trains might also leave the track: they can run through a
-loop, or take a route to another track that no packet 5 shows. {kilometres} {missing}
+borders, one of them on another route, or orders for trains that start there. It assumes that all packets 41 for a
+border lead to one place. A packet with D_LEVELTR 0 or 32,767 might be some metres from the border. It assumes that all
+packets 41 for a border have the same levels, but the announcement and the border might differ on purpose. It assumes
+that drivers acknowledge in one area, but L_ACKLEVELTR might depend on the speed at each signal. It assumes that a group
+of the table orders the change, but the last announcement might be the only order. Trains might also leave the track:
+they can run through a loop, or take a route to another track that no packet 5 shows. {kilometres} {missing}
 
-Usual cause. D_LEVELTR was typed wrongly, or did not follow a moved border. Or the border has no packet 41.
+Usual cause. D_LEVELTR was typed wrongly, D_LEVELTR was not corrected when the border moved, or the border has no packet
+41.
 
-How to correct it. Correct each D_LEVELTR according to the kilometre of the border. Put a packet 41 into the group at
+How to correct it. Correct each D_LEVELTR according to the kilometre of the border, or put a packet 41 into the group at
 the border.
 
 How to accept it. Name the borders or routes of the packets that differ.
@@ -49,11 +57,11 @@ from typing import Iterator, Optional, Sequence, Tuple
 from balisekit.etcs.variables import metres
 from balisekit.rules.decoded import Decoded
 from balisekit.rules.line import Line
-from balisekit.rules.location import ANOTHER_TRACK
 from balisekit.rules.meaning.along import parts, unread_of
 from balisekit.rules.meaning.orders import NEAR, Order, orders_of, unplaced_orders, without_direction
 from balisekit.rules.meaning.words import at_place, merged, source
 from balisekit.rules.rule import Options, Remark, Result, Rule, Urgency
+from balisekit.tables.chainage import apart
 
 Unknown = Sequence[Tuple[str, Optional[int]]]
 """Tracks and places of groups that may order a level."""
@@ -65,25 +73,26 @@ def find(line: Line, options: Options) -> Result:
     leaving: Counter[str] = Counter()
     unknown = [*without_direction(decoded), *unread_of(decoded)]
     for orders in orders_of(decoded).values():
-        staying = [order for order in orders if not _leaves(decoded, order)]
+        reasons = [_leaves(decoded, order) for order in orders]
+        staying = [order for order, why in zip(orders, reasons) if not why]
         looked_at += len(staying)
-        leaving[ANOTHER_TRACK] += len(orders) - len(staying)
+        leaving.update(filter(None, reasons))
         for part in parts(staying, NEAR):
             usual = _usual(part)
             found += [*_compare(decoded, options, part, usual, unknown), *_lengths(part)]
-            found += [] if usual.is_now else list(_unordered(decoded, usual, unknown))
+            found += [] if usual.is_now else list(_unordered(decoded, part, usual, unknown))
     return Result.of_places(merged(found), looked_at, unplaced_orders(decoded), leaving)
 
 
-def _leaves(decoded: Decoded, order: Order) -> bool:
-    """Whether packets 5 of an aspect with an announcement lead to another track before its place."""
+def _leaves(decoded: Decoded, order: Order) -> str:
+    """Why packets 5 of an aspect with an announcement leave its track before its place, or nothing."""
     data, distance = order.passage.group, abs(order.place - (order.passage.place(0) or 0))
     if order.is_now or data is None:
-        return False
+        return ""
     own = (each for each in data.passages if each.direction == order.passage.direction)
     links = (link for passage in own if order.packet in passage.said for link in passage.links)
     tracks = {link.target.track for link in links if link.target and link.total <= distance}
-    return not tracks <= {data.group.track}
+    return next(filter(None, (apart(data.group.track, track) for track in sorted(tracks))), "")
 
 
 def _usual(orders: Sequence[Order]) -> Order:
@@ -145,8 +154,11 @@ def _acknowledged(order: Order) -> Sequence[int]:
     return [each["l_ackleveltr"] * order.packet.unit for each in order.packet.form["transitions"]]
 
 
-def _unordered(decoded: Decoded, usual: Order, unknown: Unknown) -> Iterator[Remark]:
-    """A place within the table at which no group orders the level. One without direction or telegram may do it."""
+def _unordered(decoded: Decoded, part: Sequence[Order], usual: Order, unknown: Unknown) -> Iterator[Remark]:
+    """A place within the table at which no group orders the level. One without direction or telegram may do it.
+
+    One remark names all that announce this place.
+    """
     track = usual.passage.track
     places = [place for own, place in unknown if own == track]
     is_near = any(place is None or abs(place - usual.place) <= NEAR for place in places)
@@ -156,7 +168,10 @@ def _unordered(decoded: Decoded, usual: Order, unknown: Unknown) -> Iterator[Rem
             f"it announces {usual.words} at {decoded.km(track, usual.place)}, and no group within {NEAR // 10} m of "
             "that place has a packet 41 with D_LEVELTR 0 or 32,767 in this direction"
         )
-        yield Remark("E18", usual.passage.at(usual.packet), sentence, None, usual.values())
+        where, *also = dict.fromkeys(
+            each.passage.at(each.packet) for each in [usual, *part] if each.place == usual.place
+        )
+        yield Remark("E18", where, sentence, None, usual.values(), also=also)
 
 
 RULE = Rule("E18", "level orders", __doc__ or "", find, Urgency.WRONG_INFORMATION, needs_kilometres=True)

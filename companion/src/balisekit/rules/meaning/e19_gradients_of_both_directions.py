@@ -1,14 +1,15 @@
 """E19: gradients of both directions.
 
-What it says. On a stretch the gradients of the two directions do not fit together: they add up to more than 1 ‰, or all
-go down. Gradients are as each train meets them. What is uphill for one direction is downhill for the other, so they
-should add up to 0. The rule rests on SUBSET-026, 3.11.12.
-- In the first case each gradient of one direction and each of the other add up to more than 1 ‰. The stretch must be
-  longer than `--tolerance` (default 1 m) and rounding.
-- In the second case all of them go down by at least 3 ‰, for at least 1 km.
-- The longest profile of each group without refused telegrams counts. If several groups give gradients for one
-  direction, the profile counts that contradicts the other direction least.
+What it says. On a stretch the gradients of the two directions do not fit together: they add up to more than 1 ‰, or
+both directions go down. What is uphill for one direction is downhill for the other, so both gradients should add up to
+0. The rule rests on SUBSET-026, 3.11.12.
+- Sum: the rule reports a stretch whose two gradients add up to more than 1 ‰. The stretch must be longer than
+  `--tolerance` (default 1 m) and rounding.
+- Both directions down: the rule reports a stretch with at least 3 ‰ downhill in both directions for at least 1 km.
+- If several groups give gradients for one direction, the gradient that contradicts the other direction least is
+  compared. So each of these gradients must contradict the other direction before the rule reports anything.
 - If groups of one direction disagree with each other, only rule E13 reports it.
+- The rule compares only the longest profile of each group. Groups with a refused telegram are not compared.
 
 Why it matters. At worst the train gets wrong information: it brakes too late, because it believes that it goes uphill.
 The braking curve is wrong by twice the gradient. If both directions go down, the urgency is lowest.
@@ -16,13 +17,13 @@ The braking curve is wrong by twice the gradient. If both directions go down, th
 Example. Before (`examples/meaning/mistakes/E19.csv`): from km 10.000 to km 10.260 Signal 1 has +3 per mille, and Signal
 R1 of the other direction has +3 per mille too. They add up to 6 per mille. After: Signal R1 has -3 per mille.
 
-When it is a false alarm. The rule assumes that each gradient is the gradient of its place. It might be the steepest or
-the mean value of a longer stretch. Safe gradients near a summit or a valley are of this kind, and might go down in both
-directions. {leaving} {kilometres} {missing} {one way}
+When it is a false alarm. The rule assumes that each gradient is the gradient of its place. A gradient might also be the
+steepest or the mean value of a longer stretch. Safe gradients near a summit or a valley are of this kind, and might go
+down in both directions. {leaving} {kilometres} {missing} {one way}
 
-Usual cause. Q_GDIR of one direction is wrong. It might be copied from the other direction.
+Usual cause. Q_GDIR of one direction is wrong, or the gradient was copied from the other direction.
 
-How to correct it. Compare both directions with the track plan, and correct the wrong one.
+How to correct it. Compare both directions with the track plan, and correct the direction that is wrong.
 
 How to accept it. State how the gradients of this stretch were made safe, or over which length they are a mean value.
 

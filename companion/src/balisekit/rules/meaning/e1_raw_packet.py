@@ -1,17 +1,18 @@
 """E1: raw packet that does not fit its layout.
 
 What it says. A raw packet to trains does not fit balisekit's layout of this packet, contains a spare value, or has a
-number that no packet has. The remark names the first place that does not fit. The rule rests on SUBSET-026, 7.4 and
-7.5.1.
-- A packet does not fit if it has fewer or more bits than its layout. The layouts are balisekit's own, and nobody has
-  compared them with a printed standard.
-- If two forms of a packet are possible, such as for the packets 3 and 6, a packet does not fit if it fits neither. The
-  packets 13, 52 and 180 are not compared, because their lengths are not sure.
+number that no packet has. The remark names the first position in the packet that does not fit. The rule rests on
+SUBSET-026, 7.4 and 7.5.1.
+- A packet does not fit if it has fewer or more bits than its layout. A packet with two possible forms, such as packet 3
+  or 6, fits if it fits one of them.
 - Spare values are an M_LEVELTR from 5 to 7, a Q_SCALE 3, an M_MAMODE 3, and a speed number above 120 (600 km/h) that
-  has no special meaning. They are reported only if the layout is at least 97 % certain.
-- A project can state with `layouts` in `[check]` which packets it has compared with its print. Then they are compared
-  completely, even if their layout is not certain.
-- A number belongs to no packet if no issue of the standard for system versions 1 and 2 has a packet with it.
+  has no special meaning.
+- Spare values are reported only if the layout of the packet is at least 97 % certain.
+- A number is reported if no issue of the standard for system versions 1 and 2 has a packet with this number.
+- The packets 13, 52 and 180 are not compared, because their lengths are not sure.
+- The layouts are balisekit's own, and nobody has compared them with a printed standard. A project can state with
+  `layouts` in `[check]` which packets it has compared with its print. Then these packets are compared completely, even
+  if their layout is not certain.
 
 Why it matters. At worst the train gets wrong information: it takes the bits of one variable for another. Or it rejects
 the message, or ignores the packet.
@@ -20,21 +21,20 @@ Example. Before (`examples/meaning/mistakes/E1.csv`): the packet 65 of Signal 3 
 layout, and its L_PACKET is 79 bits. After: the packet ends with its layout, and L_PACKET is 71.
 
 When it is a false alarm. Never, if the layout and its spare numbers are those of the standard. If your print shows
-another layout, the remark is wrong. The same holds for a packet number of a later system version.
+another layout, the remark is wrong. The remark is also wrong if a later system version has a packet with this number.
 
-Usual cause. The body was made by hand or with another tool, or has the form of system version 1. Or L_PACKET was not
-adapted. Or a condition, such as Q_NEWCOUNTRY or N_ITER, does not fit what follows.
+Usual cause. The body of the packet was made by hand or with another tool, or has the form of system version 1. Or
+L_PACKET was not adapted. Or a condition, such as Q_NEWCOUNTRY or N_ITER, does not fit the fields that follow.
 
 How to correct it. Generate the packet again, with the bits of the layout that `balisekit show` writes.
 
 How to accept it. Quote the section of the printed standard that has another layout.
 
 How sure. 97 %, by practice and memory of the standard. If a layout is less certain, the remark says how certain it is.
-Numbers that no packet has are 90 % sure.
+A remark about a number that no packet has is 90 % sure.
 """
 from __future__ import annotations
 
-from decimal import Decimal
 from typing import Iterator, Optional
 
 from balisekit.etcs.raw_layouts import Layout, layouts
@@ -43,6 +43,7 @@ from balisekit.rules.line import Line
 from balisekit.rules.meaning.sent import Fault, located, remark, sent
 from balisekit.rules.rule import Options, Remark, Result, Rule, Urgency
 from balisekit.rules.telegrams import Packet
+from balisekit.tables.decimals import whole
 
 DOUBTFUL = 85
 """A layout that is less sure, in per cent, may have another length."""
@@ -83,7 +84,7 @@ def _fault(packet: Packet, layout: Layout, is_full: bool) -> Optional[RawFault]:
 
 def _words(packet: Packet, fault: RawFault, layout: Layout, is_sure: bool) -> Fault:
     """The fault with the length of the packet, and how sure the layout is."""
-    values = {"bits": Decimal(packet.form["l_packet"]), "first_bit": Decimal(fault.at)}
+    values = {"bits": whole(packet.form["l_packet"]), "first_bit": whole(fault.at)}
     doubt = "" if is_sure else f"; balisekit is {layout.sure} % sure of this layout"
     return Fault(f"{fault.reason}; its L_PACKET is {packet.form['l_packet']} bits{doubt}", values)
 
@@ -93,7 +94,7 @@ def _unknown(line: Line, known: "set[int]") -> Iterator[Remark]:
     for number in sorted(line.decoded.senders.keys() - known):
         for owner, packet in sent(line.decoded, number):
             words = f"no packet to trains has NID_PACKET {number} in system versions 1 and 2"
-            yield remark("E1", located(owner, packet), [Fault(words, {"nid_packet": Decimal(number)})])
+            yield remark("E1", located(owner, packet), [Fault(words, {"nid_packet": whole(number)})])
 
 
 RULE = Rule("E1", "raw packets", __doc__ or "", find, Urgency.WRONG_INFORMATION)

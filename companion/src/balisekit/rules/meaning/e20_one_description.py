@@ -2,11 +2,11 @@
 
 What it says. A packet 5 names its own group, or one group twice. Or a link to a group has another Q_LOCACC or
 Q_LINKREACTION than the other links to it. The rule rests on SUBSET-026, 3.4.4 and 7.4.2.
-- The most frequent value counts as right. If several are equally frequent, the one that more links of the table have
-  counts.
-- Q_LINKREACTION is compared for trains of one way.
-- Another value is reported if no other link of the table has it, and the table has at least ten links.
-- With `--rules E20` each value is reported that is not the most frequent one.
+- The most frequent value counts as right. Of equally frequent values, it is the value that more links of the table
+  have.
+- Q_LINKREACTION is compared only between links for trains that run the same way.
+- A different value is reported only if no other link of the table has it, and the table has at least ten links.
+- With `--rules E20` each value that is not the most frequent one is reported.
 
 Why it matters. At worst the train brakes without need. It expects one group twice, or the expectation window of a group
 depends on which group linked it. A remark about Q_LOCACC or Q_LINKREACTION has the lowest urgency.

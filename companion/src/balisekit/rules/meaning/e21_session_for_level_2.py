@@ -1,25 +1,28 @@
 """E21: level 2 needs a session.
 
-What it says. A packet 41 or 46 names level 2 or 3, and no packet 42 with Q_RBC 1 comes with it or before it. The rule
-is off unless you ask for it with `--rules E21`. The proved program does not decode packets 42 and 46: balisekit decodes
-them by layouts of its own. The rule rests on SUBSET-026, 3.5.3, 5.10 and 7.4.2.
-- A packet 42 counts if it is in the same group, or in a group before it on that track. It does not count if it is known
-  to be for trains of the other way only.
-- Nothing is reported if one of these groups has a refused telegram, because that telegram might have the packet 42.
+What it says. A packet 41 or 46 names level 2 or 3, but the train has got no packet 42 with Q_RBC 1 up to there. The
+rule is off unless you ask for it with `--rules E21`. The proved program does not decode packets 42 and 46: balisekit
+decodes them by layouts of its own. The rule rests on SUBSET-026, 3.5.3, 5.10 and 7.4.2.
+- The rule looks for the packet 42 in the group with the packet 41 or 46, and in the groups before it on the track. A
+  packet 42 in a group without a kilometre counts as well.
+- A packet 42 that is only for trains of the other direction does not count.
+- One remark names all packets 41 and 46 with level 2 or 3 that a train of this track and direction passes before the
+  first packet 42.
+- Nothing is reported if a group up to there has a refused telegram, because that telegram might have the packet 42.
 
-Why it matters. At worst the train brakes without need. It reaches the border without a movement authority by radio, and
-might be stopped there.
+Why it matters. At worst the train brakes without need. The train reaches the border without a movement authority by
+radio, and might be stopped there.
 
 Example. Before (`examples/meaning/mistakes/E21.csv` with `--rules E21`): Signal 4 (km 14.500) announces level 2, and no
 group up to there has a packet 42 with Q_RBC 1. After: the packet 42 of Signal 1 has Q_RBC 1.
 
-When it is a false alarm. The rule assumes that the table has the packet 42 of each train. A train might come with a
-session, open one at the start of mission, or get the packet between announcement and border. It assumes that trains
-stay on the track. A train that comes from another track might have got the packet there. It assumes that the kilometres
-show the order of the groups. They do not if they are missing or repeat, or if they jump and nobody stated the jump.
-{one way}
+When it is a false alarm. The rule assumes that the table has the packet 42 of each train. A train might arrive with a
+session, or open one at the start of mission. It might also get the packet 42 between the announcement and the border.
+It assumes that trains stay on the track. A train that comes from another track might have got the packet 42 there. It
+assumes that the kilometres show the order of the groups. They do not show it if they are missing or repeat, or if they
+jump and nobody stated the jump. {one way}
 
-Usual cause. The packet 42 was forgotten, or has Q_RBC 0. Or it is for the other direction.
+Usual cause. The packet 42 was forgotten, has Q_RBC 0, or is for the other direction.
 
 How to correct it. Put a packet 42 with Q_RBC 1 far enough before the border.
 

@@ -3,18 +3,28 @@
 What it says. Packets 65 have the same NID_TSR (below 255), but give different places, lengths or speeds, or a packet 65
 or 66 restricts or revokes nothing. The proved program does not decode these packets: balisekit decodes them by layouts
 of its own. The rule rests on SUBSET-026, 3.11.5 and 7.4.2.
-- The rule compares restrictions on one track, for trains that run the same way, if each begins at most 2 km from the
-  next one. It does not matter which groups send them.
+- One NID_TSR: packets 65 with one NID_TSR must have one place, L_TSR and V_TSR. Two restrictions at different places
+  are reported too, because the second one that a train gets takes the place of the first one.
+- One restriction: packets 65 with the same place, length and speed describe one restriction. If their NID_TSR or
+  Q_FRONT differ, the rarer value is reported.
+- No restriction: a packet 65 is reported if its L_TSR is 0. It is also reported if its V_TSR is above each V_STATIC and
+  V_DIFF of a table with at least five packets 27.
+- No revocation: a packet 66 is reported if it has NID_TSR 255, which nothing can revoke. It is also reported if a
+  packet 65 of its own telegram has its NID_TSR.
+- Nothing to revoke: a packet 66 is reported if no packet 65 for trains of the same way has its NID_TSR. A packet whose
+  way is not known counts for both ways. This fault is only looked for if the table or the messages have a packet 65
+  that can be revoked.
+- The rule compares packets 65 on one track, for trains that run the same way, whichever groups send them. Each
+  restriction must begin at most 20 km from the next one. A restriction is counted as not compared if all others with
+  its NID_TSR are farther away.
 - Place and L_TSR may differ by `--tolerance` (default 1 m) and rounding.
-- The most frequent restriction counts as right.
-- A group within the restriction might send only the rest of it. Such a packet has D_TSR 0, and it agrees if V_TSR and
-  the end of the restriction are the same.
-- A packet 65 restricts nothing if its L_TSR is 0. The same holds if its V_TSR is above each V_STATIC and V_DIFF of a
-  table with at least five packets 27.
-- A packet 66 is reported if it has NID_TSR 255, which nothing can revoke. It is also reported if a packet 65 of its own
-  telegram has its NID_TSR.
-- If the table or the messages have packets 65 that can be revoked, a packet 66 is reported whose NID_TSR none of them
-  has. A packet 65 counts for the packet 66 only if both are for trains that run the same way, as far as this is known.
+- The most frequent restriction counts as right. Of equally frequent restrictions, the restriction at the lowest
+  kilometre counts as right.
+- A group within the restriction might send only the rest of the restriction. Such a packet has D_TSR 0, and is not
+  reported if its V_TSR and the end of the restriction are the same.
+- A different NID_TSR or Q_FRONT is not reported if one telegram has both values. If several restrictions differ in this
+  way, and more than one in five, their packets are counted as not compared.
+- Rule E2 reports a V_TSR above `--line-speed`.
 
 Why it matters. At worst the train gets wrong information: the restriction begins too late, ends too early, has another
 speed, or is not revoked.
@@ -23,81 +33,67 @@ Example. Before (`examples/meaning/mistakes/E22.csv`): Signal 4 has restriction 
 km 14.000, both for 500 m with 40 km/h. After: Signal 4 has no packet 65, because the restriction ends there.
 
 When it is a false alarm. The rule assumes that each NID_TSR belongs to one restriction only. Two restrictions might
-have the same number, if one of them is on another route. It assumes that all packets state the complete restriction
-exactly. D_TSR or L_TSR might be on the safe side, or might depend on the aspect or the route. It assumes that each
-packet 65 restricts trains, although a template might hold one ready without a length or with a great speed. It assumes
-that the table has the packet 65 for each packet 66, as soon as it has any. The packet 65 might be in a group that is
-laid for some weeks, or come by radio. {kilometres} {missing} {one way}
+have the same number, if one of them is on another route. The same holds if each train has forgotten the first
+restriction before it gets the second one, for example because a packet 66 revoked it. It assumes that all packets state
+the complete restriction exactly. D_TSR or L_TSR might be on the safe side, or might depend on the aspect or the route.
+It assumes that each packet 65 restricts trains, although a template might hold one ready without a length or with a
+great speed. It assumes that the table has the packet 65 for each packet 66, as soon as it has any. The packet 65 might
+be in a group that is laid for some weeks, or come by radio. {kilometres} {missing} {one way}
 
-Usual cause. D_TSR was not generated again for the second group. Or a restriction was changed in one group only. Or an
+Usual cause. D_TSR was not generated again for the second group, a restriction was changed in one group only, or an
 NID_TSR was typed wrongly.
 
 How to correct it. Correct D_TSR, L_TSR and V_TSR according to the list of restrictions.
 
-How to accept it. Name both restrictions in the list of restrictions, the route of this one, or what else sends it.
+How to accept it. Name both restrictions in the list of restrictions, or the route of this restriction. For a packet 66,
+name what else sends the restriction.
 
 How sure. 86 %, by practice and memory of the standard.
 """
 from __future__ import annotations
 
 from collections import Counter
-from decimal import Decimal
-from typing import Dict, Iterator, List, NamedTuple, Sequence, Tuple
+from typing import Dict, Iterator, List, Sequence, Tuple
 
-from balisekit.etcs.variables import Values, metres
-from balisekit.rules.decoded import Decoded, tolerance_of_lengths
+from balisekit.etcs.variables import Values
+from balisekit.rules.decoded import Decoded
 from balisekit.rules.line import Line
-from balisekit.rules.meaning.along import lane_of, parts, passed_over
+from balisekit.rules.meaning.along import Lane, parts, passed_over
+from balisekit.rules.meaning.restrictions import Restriction, descriptions_of, is_rest, most_frequent, restrictions_of
 from balisekit.rules.meaning.revocations import NOT_REVOCABLE, RESTRICTION, without_effect, without_restriction
-from balisekit.rules.meaning.words import at_place, merged, source
-from balisekit.rules.passages import Passage
+from balisekit.rules.meaning.words import merged, source
 from balisekit.rules.rule import Options, Remark, Result, Rule, Urgency
 from balisekit.rules.telegrams import Packet
 
-NEAR = 20_000
-"""How near in decimetres two places of one restriction are."""
-
-
-class Restriction(NamedTuple):
-    """A restriction at its place."""
-
-    place: int
-    length: int
-    speed: int
-    """In km/h."""
-    passage: Passage
-    packet: Packet
-
-    @property
-    def number(self) -> int:
-        """NID_TSR."""
-        fields: Values = self.packet.form
-        return int(fields["nid_tsr"])
-
-    @property
-    def says(self) -> Tuple[int, int, int]:
-        """What is compared."""
-        return self[:3]
-
-    def values(self, before: str = "") -> Dict[str, Decimal]:
-        """What is compared, by its names, which begin so."""
-        metres_of = {"d_tsr_m": Decimal(self.place) / 10, "l_tsr_m": Decimal(self.length) / 10}
-        return {f"{before}{name}": value for name, value in {**metres_of, "v_tsr_kmh": Decimal(self.speed)}.items()}
-
-    def words(self, decoded: Decoded, passage: Passage) -> str:
-        """It in words, with its distance from the group of a passage."""
-        return f"{at_place(decoded, passage, self.place)}, {metres(self.length)} with {self.speed} km/h"
+NEAR = 200_000
+"""How near in decimetres two restrictions are that have different numbers."""
+FAR = "restrictions whose NID_TSR no other one within 20 km has, but one beyond"
+NUMBERED = "restrictions to which several groups give numbers, or Q_FRONT, of their own"
+"""Why restrictions are not compared."""
 
 
 def find(line: Line, options: Options) -> Result:
-    """Compares the restrictions with one number."""
-    decoded, found, looked_at = line.decoded, [], 0
-    for some in _restrictions(decoded).values():
-        looked_at += len(some)
+    """Compares the restrictions with one number, and the numbers of one restriction."""
+    decoded, looked_at = line.decoded, 0
+    described = descriptions_of(decoded, options)
+    left: Counter[str] = Counter({NUMBERED: described.left})
+    named = {_packet_of(each) for each in described.found}
+    found = list(described.found)
+    for some in _by_number(decoded).values():
         for part in parts(some, NEAR):
-            found += list(_compare(decoded, options, part))
+            is_alone = len(part) == 1 < len(some)
+            left[FAR] += is_alone
+            looked_at += 0 if is_alone else len(part)
+            found += [each for each in _compare(decoded, options, part) if _packet_of(each) not in named]
     found += [*without_effect(decoded, options.greatest_speed // 5), *without_restriction(decoded)]
-    return Result(merged(found), looked_at, passed_over(decoded, _is_restriction))
+    looked_at = max(looked_at - described.left, 0)
+    return Result.of_places(merged(found), looked_at, passed_over(decoded, _is_restriction), +left)
+
+
+def _packet_of(remark: Remark) -> Tuple[object, ...]:
+    """The packet that a remark is about."""
+    where = remark.location
+    return where.row.number if where.row else None, id(where.message), where.packet, where.direction
 
 
 def _is_restriction(packet: Packet) -> bool:
@@ -106,41 +102,22 @@ def _is_restriction(packet: Packet) -> bool:
     return packet.number == RESTRICTION and fields.get("nid_tsr", NOT_REVOCABLE) != NOT_REVOCABLE
 
 
-def _restrictions(decoded: Decoded) -> Dict[Tuple[str, int, int], List[Restriction]]:
-    """The restrictions of each track and way with each number."""
-    found: Dict[Tuple[str, int, int], Dict[Tuple[int, str], Restriction]] = {}
-    for passage in decoded.passages:
-        for packet in passage.said:
-            form: Values = packet.form
-            if _is_restriction(packet):
-                place = passage.place(form["d_tsr"] * packet.unit) if passage.way is not None else None
-                if place is not None:
-                    own = found.setdefault((*lane_of(passage), form["nid_tsr"]), {})
-                    restriction = Restriction(place, form["l_tsr"] * packet.unit, form["v_tsr"] * 5, passage, packet)
-                    own[id(packet), passage.direction] = restriction
-    return {lane: sorted(own.values(), key=lambda each: each.place) for lane, own in found.items()}
-
-
-def _is_rest(one: Restriction, other: Restriction, tolerance: int) -> bool:
-    """Whether the one that begins farther along is the rest of the other one, sent by a group within it: D_TSR 0."""
-    way = one.passage.way or 1
-    whole, rest = sorted((one, other), key=lambda each: each.place * way)
-    begin = (rest.place - whole.place) * way
-    ends_there = abs(begin + rest.length - whole.length) <= tolerance
-    fields: Values = rest.packet.form
-    return fields["d_tsr"] == 0 and begin <= whole.length and ends_there and one.speed == other.speed
+def _by_number(decoded: Decoded) -> Dict[Tuple[Lane, int], List[Restriction]]:
+    """The restrictions of each track and way that can be revoked, with each number."""
+    found: Dict[Tuple[Lane, int], List[Restriction]] = {}
+    for lane, some in restrictions_of(decoded).items():
+        for each in some:
+            if each.number != NOT_REVOCABLE:
+                found.setdefault((lane, each.number), []).append(each)
+    return found
 
 
 def _compare(decoded: Decoded, options: Options, some: Sequence[Restriction]) -> Iterator[Remark]:
-    """Those that differ from the most frequent one."""
-    counts = Counter(each.says for each in some)
-    usual = max(some, key=lambda each: counts[each.says])
+    """Those that differ from the one with which most senders agree."""
+    usual = most_frequent(decoded, options, some)
     for each in some:
-        stated, units = options.tolerance_of_places, (each.packet.unit, usual.packet.unit)
-        tolerance = decoded.tolerance(stated, *units)
-        is_same = abs(each.place - usual.place) <= tolerance and each.speed == usual.speed
-        is_same = is_same and abs(each.length - usual.length) <= tolerance_of_lengths(stated, *units)
-        if not is_same and not _is_rest(each, usual, tolerance):
+        tolerance = decoded.tolerance(options.tolerance_of_places, each.packet.unit, usual.packet.unit)
+        if not each.agrees(usual, decoded, options) and not is_rest(each, usual, tolerance):
             sentence = (
                 f"the restriction with NID_TSR {each.number} is at {each.words(decoded, each.passage)}, and by "
                 f"{source(usual.passage, usual.packet)} at {usual.words(decoded, each.passage)}"

@@ -1,28 +1,31 @@
 """E23: version or country differs from the rest of the line.
 
-What it says. A telegram has another M_VERSION than most of the table, or a group has another NID_C than its neighbours
-on the track. The rule is off unless you ask for it with `--rules E23`. The rule rests on SUBSET-026, 7.5.1 and 8.4.2.
-- The most frequent M_VERSION of the table counts as right.
-- For NID_C, the most frequent value of the track counts as right. Only the groups between the first and the last group
-  with this value are compared.
-- If two values are equally frequent, the one that comes first counts. The order of the groups is the order of their
-  kilometres, or of the table if a kilometre is missing.
+What it says. A telegram has another M_VERSION than most telegrams of the table, or a group has another NID_C than its
+neighbours on the track. The rule is off unless you ask for it with `--rules E23`. The rule rests on SUBSET-026, 7.5.1
+and 8.4.2.
+- M_VERSION is compared over the whole table. The most frequent M_VERSION counts as right. If two are equally frequent,
+  the version that comes first in the table counts as right.
+- NID_C is compared over the groups of a track. The most frequent NID_C counts as right. If two are equally frequent,
+  the NID_C that comes first on the track counts as right.
+- Only the groups between the first and the last group with the right NID_C are reported.
+- The groups of a track are in the order of their kilometres. If the kilometre of a group is missing, all groups of the
+  track are in the order of the table.
 - Refused telegrams do not count.
 
-Why it matters. To be looked at: a train with the older version ignores what the later one has added. A group with a
+Why it matters. To be looked at: a train with the older version ignores what the later version has added. A group with a
 wrong NID_C is another group for the train. L1 finds links that name the group by another NID_C.
 
 Example. Before (`examples/meaning/mistakes/E23.csv` with `--rules E23`): a telegram of Signal 4 (km 14.500) has
-M_VERSION 2.0, and 23 other telegrams of the table have 2.1. After: it has 2.1 too. Then the program's three findings F3
-at this group are gone as well.
+M_VERSION 2.0, and 23 other telegrams of the table have 2.1. After: the telegram has 2.1 too. Then the program's three
+findings F3 at this group are gone as well.
 
-When it is a false alarm. The rule assumes that a table has one version. That is not so at a border between versions, or
-if balises differ on purpose. It also assumes that a track has one NID_C between its ends. That is not so if the groups
-of two countries alternate, or if a region has several NID_C.
+When it is a false alarm. The rule assumes that all telegrams of a table have one version. That is wrong at a border
+between versions, or if balises differ on purpose. It also assumes that a track has one NID_C between its ends. That is
+wrong if groups of two countries alternate, or if a region has several NID_C.
 
-Usual cause. A telegram was made with another version of a tool. Or it was copied from another line.
+Usual cause. A telegram was made with another version of a tool, or was copied from another line.
 
-How to correct it. Correct the header.
+How to correct it. Correct M_VERSION or NID_C in the header.
 
 How to accept it. Name the border of versions or countries, or the reason for the other version.
 

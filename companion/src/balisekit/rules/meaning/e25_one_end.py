@@ -2,15 +2,22 @@
 
 What it says. Authorities of two groups end at the same place, and disagree about the danger point, the overlap or V_LOA
 there. The rule rests on SUBSET-026, 3.8.
-- Authorities are packets 12 with V_MAIN above 0, and packets 15. What follows a packet 136 is not compared.
-- Two authorities end at the same place if their packets 5 name the same group there, at most 200 m from the end. The
-  ends must be equally far from that group, up to `--tolerance` (default 1 m) and rounding.
-- D_DP, V_RELEASEDP, D_OL, V_RELEASEOL and V_LOA are compared, and whether there is a danger point or an overlap. D_DP
-  and D_OL may differ by `--tolerance` and one unit of Q_SCALE.
-- Overlaps are not compared if aspects of one group already give several for this end.
-- Authorities with a packet 80 (mode profile) are not compared.
-- The most frequent value counts as right. If several are equally frequent, the one that is more frequent in the table
-  counts.
+- The rule compares D_DP, V_RELEASEDP, D_OL, V_RELEASEOL and V_LOA. It also compares whether there is a danger point,
+  and whether there is an overlap.
+- Authorities are packets 12 with V_MAIN above 0, and packets 15.
+- Two authorities end at the same place if their packets 5 name the same group with the same orientation, at most 200 m
+  from the end. Both ends must also be equally far from that group, up to `--tolerance` (default 1 m) and rounding.
+- The most frequent value counts as right, and a remark names each authority with another value. If several values are
+  equally frequent at this end, the value that is more frequent in the whole table counts as right.
+- D_DP and D_OL may differ by `--tolerance` and one unit of Q_SCALE.
+- An authority is not compared if it follows a packet 136, or if its message has a packet 80 (mode profile). The
+  authority of a radio message is not compared if the group of the message is not in the table.
+- The overlaps of an end are compared only if each group gives one value for all its aspects. If aspects of one group
+  give several D_OL, D_OL is not compared at this end. The same holds for V_RELEASEOL.
+- V_LOA is not compared if aspects of one group give several values, and none of them is 0. Several values with a 0
+  among them are not compared either if the group at the end orders a level at once (packet 41).
+- The danger point and the overlap of an authority are not compared if its V_LOA is above 0, because trains may pass its
+  end.
 
 Why it matters. At worst the train gets wrong information: it might pass the danger point, or run at a speed that is not
 meant for this signal.
@@ -20,14 +27,14 @@ has D_OL 150 m, and "yellow" of Signal 4 gives 200 m for it. After: both give 20
 
 When it is a false alarm. The rule assumes that an end has one danger point, one overlap and one V_LOA, whichever route
 leads to it. The overlap and the release speed might depend on the route, such as after a reduced overlap or over points
-beyond the signal. A limit of authority might be given to trains of one route only. The rule also assumes that packets 5
-name the same groups only if the routes meet there.
+beyond the signal. A V_LOA above 0 might be given only to trains of one route. The rule also assumes that two routes
+meet at the end if packets 5 of both routes name the same group there.
 
-Usual cause. The value was changed in one of the groups only. Or it was copied from another signal.
+Usual cause. The value was changed in one of the groups only, or it was copied from another signal.
 
 How to correct it. Give the same value in all groups, according to the design of the signal at the end.
 
-How to accept it. Name both routes, and what each of them has beyond the signal.
+How to accept it. Name both routes, and state what each route has beyond the signal.
 
 How sure. 88 %, by practice and memory of the standard.
 """
@@ -42,6 +49,8 @@ from balisekit.rules.decoded import tolerance_of_lengths
 from balisekit.rules.facts import counted, sender
 from balisekit.rules.line import Line
 from balisekit.rules.meaning.ends_at_groups import (
+    LIMIT,
+    USUAL,
     Compared,
     End,
     Value,
@@ -55,14 +64,15 @@ from balisekit.rules.rule import Field, Options, Remark, Result, Rule, Urgency
 from balisekit.tables.names import describe_identity
 
 COMPARED = (
-    ("", "end_speed"),
+    LIMIT,
     ("danger_point", "d_dp"),
     ("danger_point", "v_releasedp"),
     ("overlap", "d_ol"),
     ("overlap", "v_releaseol"),
 )
 """The parts of an authority that are compared, and their keys. The first key of a part says whether it is there."""
-OF_ASPECTS = "without its overlap, which depends on the aspect"
+OF_ASPECTS = "without its overlap or V_LOA, which depends on the aspect"
+OF_LIMITS = "without its danger point and overlap, which mean nothing with V_LOA above 0"
 """What is not compared in full."""
 Table = Mapping[Compared, "Counter[Value]"]
 """How many ends of the table have each value."""
@@ -76,9 +86,11 @@ def find(line: Line, options: Options) -> Result:
     for some in groups:
         for same in at_one_place(options, some):
             found += _compare(options, same, table)
-            left[OF_ASPECTS] += len(same) if any(depends_on_aspects(same, each) for each in COMPARED) else 0
-    looked_at = sum(map(len, groups)) - left[OF_ASPECTS]
-    return Result(merged(found), looked_at, +left, is_optional=True)
+            depends = any(depends_on_aspects(same, each) for each in COMPARED)
+            limits = [end for end in same if end.is_limit and (end.form_of("danger_point") or end.form_of("overlap"))]
+            left[OF_ASPECTS if depends else OF_LIMITS] += len(same) if depends else len(limits)
+    looked_at = sum(map(len, groups)) - left[OF_ASPECTS] - left[OF_LIMITS]
+    return Result(merged(found), looked_at, +left, is_optional=True, usual=USUAL)
 
 
 def _compare(options: Options, same: Sequence[End], table: Table) -> Iterator[Remark]:
@@ -86,7 +98,9 @@ def _compare(options: Options, same: Sequence[End], table: Table) -> Iterator[Re
     usual = {compared: usual_end(same, compared, table[compared]) for compared in COMPARED}
     for end in same:
         differing = [
-            (compared, other) for compared, other in usual.items() if other and _differ(options, end, other, *compared)
+            (compared, other)
+            for compared, other in usual.items()
+            if other and (compared == LIMIT or not end.is_limit) and _differ(options, end, other, *compared)
         ]
         if differing:
             yield _remark(end, differing)

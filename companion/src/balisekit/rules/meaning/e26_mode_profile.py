@@ -1,13 +1,16 @@
 """E26: mode profile against its authority.
 
 What it says. A packet 80 (mode profile) asks for a mode that its own message does not allow. The proved program does
-not decode packet 80: balisekit decodes it by a layout of its own. The rule rests on SUBSET-026, 3.12.4 and 7.4.2.
-- The first D_MAMODE is beyond the end of each authority of the message, by more than `--tolerance` (default 1 m) and
-  rounding.
-- V_MAMODE for on sight or shunting is above 100 km/h, and is not the national value.
+not decode packet 80: balisekit decodes it by a layout of its own. The rule rests on SUBSET-026, 3.12.4 and 7.4.2. The
+first four items are the faults that it reports.
+- The message has no packet 12 or 15 for the direction of the packet 80.
+- The first mode begins at or beyond the end of each authority of this direction, by its D_MAMODE. At the end means
+  within `--tolerance` (default 1 m) and rounding. Later modes are not compared with the end.
+- A V_MAMODE for on sight or shunting is above 100 km/h, and is not the national value.
 - The L_MAMODE of a mode is 0.
-- The message has no packet 12 or 15.
-- A packet 80 after a packet 136 is compared with the authorities there.
+- A first mode that begins at the end is not reported if it is shunting, or if V_LOA is above 0. The same holds if the
+  authority has no length, as at a stop aspect.
+- A packet 80 after a packet 136 is compared only with the authorities after this packet 136.
 
 Why it matters. At worst the train gets wrong information: it enters an occupied track in full supervision, or faster
 than a driver can stop on sight.
@@ -17,14 +20,18 @@ the group, and the authority ends 1,500 m from it. After: on sight begins at the
 
 When it is a false alarm. The rule assumes that a mode profile belongs to an authority of the same message. A project
 might send it in a message of its own, such as by radio. The rule also assumes that V_MAMODE is the speed at which
-trains run in this mode. A project might send a great V_MAMODE if another limit restricts these trains anyway.
+trains run in this mode. A project might send a great V_MAMODE if another limit restricts these trains anyway. The rule
+also assumes that a packet 80 with Q_DIR 2 is for both directions. A project might send it at a signal for one
+direction, where its message has no authority for the other one. It also assumes that each mode has a length. A project
+might send L_MAMODE 0 for shunting, because a train in shunting does not supervise the end of the area.
 
 Usual cause. D_MAMODE was counted from another signal, or has a wrong Q_SCALE. Or V_MAMODE was given in km/h instead of
 steps of 5 km/h.
 
-How to correct it. Correct D_MAMODE, L_MAMODE or V_MAMODE, or add the authority.
+How to correct it. Correct D_MAMODE, L_MAMODE, V_MAMODE or Q_DIR, or add the authority.
 
-How to accept it. Name the message that has the authority, or the limit that restricts V_MAMODE.
+How to accept it. Name the message that has the authority, the limit that restricts V_MAMODE, or the direction in which
+no train runs.
 
 How sure. 90 %, by practice and memory of the standard.
 """
@@ -44,7 +51,8 @@ from balisekit.tables.names import ordinal
 
 MODES, FASTEST, NATIONAL = 80, 20, 127
 """NID_PACKET of a mode profile, and as they are sent: 100 km/h, and the V_MAMODE of the national values."""
-SLOW = {0: "on sight", 1: "shunting"}
+SHUNTING = 1
+SLOW = {0: "on sight", SHUNTING: "shunting"}
 """The modes in which the driver looks out, by M_MAMODE."""
 
 NOT_DECODED = "not decoded"
@@ -86,9 +94,21 @@ def _start(options: Options, packet: Packet, authorities: Sequence[Packet]) -> I
         return
     begin, last = form["elements"][0]["d_mamode"] * packet.unit, max(authorities, key=lambda each: each.end)
     parts: Tuple[Tuple[Packet, int], ...] = ((packet, 1), (last, last.lengths))
-    if begin - last.end > tolerance(options, *parts):
-        words = f"D_MAMODE {metres(begin)} is beyond the end of authority, {metres(last.end)} from the group"
+    beyond, allowed = begin - last.end, tolerance(options, *parts)
+    if beyond > allowed or beyond >= -allowed and _must_begin_before(packet, last):
+        side = "beyond" if beyond > allowed else "at"
+        words = f"D_MAMODE {metres(begin)} is {side} the end of authority, {metres(last.end)} from the group"
         yield Fault(words, {"d_mamode_m": distance(begin), "end_m": distance(last.end)}, [("d_mamode", 0)])
+
+
+def _must_begin_before(packet: Packet, last: Packet) -> bool:
+    """Whether no train is in the first mode if it begins at the end of an authority.
+
+    A train may shunt from the end on, or pass a limit of authority. An authority without a length ends at its group.
+    """
+    form: Any = packet.form
+    authority: Any = last.form
+    return form["elements"][0]["m_mamode"] != SHUNTING and not authority["end_speed"] and last.end > 0
 
 
 def _mode(place: int, element: Any) -> Iterator[Fault]:

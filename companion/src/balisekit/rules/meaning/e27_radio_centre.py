@@ -3,27 +3,31 @@
 What it says. Packets 42 (session management) or 131 (RBC transition order) contradict each other about a radio block
 centre (RBC), or NID_RADIO is no telephone number. The proved program does not decode these packets: balisekit decodes
 them by layouts of its own. The rule rests on SUBSET-026, 3.5, 3.15.1 and 7.5.1.
-- NID_RADIO has a digit from A to E, or an F before another digit. Sixteen F are the short number.
-- One RBC, by NID_C and NID_RBC, has different NID_RADIO. Or one NID_RADIO belongs to several RBC.
-- The most frequent number or RBC counts as right. If none is more frequent, the packet that comes later in the table is
-  reported. Of packets 131 for one border it is the one with the greater kilometre.
-- Packets 131 for trains that run the same way on the same track give different places or different RBC, although these
-  places are at most 500 m apart. Places may differ by `--tolerance` (default 1 m) and rounding. Packets with D_RBCTR
-  32,767 (now) have no place to compare.
-- A number is not compared if it is the short number, or if its packet has Q_RBC 0 or NID_RBC 16,383 (the RBC that was
-  known last).
+- No telephone number: NID_RADIO has a digit from A to E, or an F before another digit. The short number is 16 times F,
+  and it is allowed.
+- Two numbers: packets for the same NID_C and NID_RBC have different NID_RADIO.
+- Two centres: packets with the same NID_RADIO have different NID_C or NID_RBC.
+- Borders: packets 131 give different places or different RBC, although their places are at most 500 m apart. Only
+  packets for trains that run the same way on the same track are compared. Places may differ by `--tolerance` (default 1
+  m) and rounding.
+- The most frequent number, RBC or place counts as right, and the other packets are reported. Of equally frequent
+  numbers or RBC, the first one counts as right: packets 42 in the order of the table come first, then packets 131. Of
+  equally frequent borders, the border at the lowest kilometre counts as right.
+- A number is not compared with other packets if it is the short number or no telephone number. It is not compared
+  either if its packet has Q_RBC 0, or NID_RBC 16,383 (the RBC that was known last).
+- The place of a packet 131 is not compared if D_RBCTR is 32,767 (now).
 
-Why it matters. At worst the train brakes without need. It calls a wrong number or a wrong RBC, and has no movement
-authority at the border.
+Why it matters. At worst the train brakes without need. The train calls a wrong number or a wrong RBC, and has no
+movement authority at the border.
 
-Example. Before (`examples/meaning/mistakes/E27.csv`): by Signal 3 (km 13.000) the RBC 1 of country 352 has the number
-0123465789, and by 2 other packets 0123456789. After: all packets have the same number.
+Example. Before (`examples/meaning/mistakes/E27.csv`): the packet of Signal 3 (km 13.000) gives RBC 1 of country 352 the
+number 0123465789, and 2 other packets give it 0123456789. After: all packets have the same number.
 
 When it is a false alarm. The rule assumes that each RBC has one telephone number. An RBC might have several numbers,
 such as one for each of two radio networks. Two RBC might share a number during a change of systems. The rule assumes
 that packets 131 within 500 m are for one border. There might be two borders, one of them on another route. {kilometres}
 
-Usual cause. A digit of the number was typed wrongly. Or a number, NID_RBC or D_RBCTR was changed in one group only.
+Usual cause. A digit of the number was typed wrongly, or NID_RADIO, NID_RBC or D_RBCTR was changed in one group only.
 
 How to correct it. Correct NID_RADIO, NID_C, NID_RBC or D_RBCTR according to the list of radio block centres.
 
@@ -33,11 +37,11 @@ How sure. 90 %, by practice and memory of the standard.
 """
 from __future__ import annotations
 
-import re
 from collections import Counter
 from decimal import Decimal
 from typing import Any, Callable, Dict, Iterator, List, NamedTuple, Sequence
 
+from balisekit.expressions import expression
 from balisekit.rules.decoded import Owner
 from balisekit.rules.facts import counted, origin
 from balisekit.rules.line import Line
@@ -52,7 +56,7 @@ from balisekit.tables.names import rows_words
 SESSION, LAST_KNOWN = 42, 16_383
 """NID_PACKET of session management, and NID_RBC of the RBC that was known last."""
 NOT_DECODED = "not decoded"
-SHORT, NUMBER = "f" * 16, re.compile("[0-9]+f*")
+SHORT, NUMBER = "f" * 16, expression("[0-9]+f*")
 
 
 class Call(NamedTuple):
@@ -83,7 +87,8 @@ class Call(NamedTuple):
             return "Q_RBC 0"
         if self.centre[1] == LAST_KNOWN:
             return "the RBC that was known last"
-        return "" if NUMBER.fullmatch(self.digits) else "no telephone number"
+        other = "the short number" if self.digits == SHORT else "no telephone number"
+        return "" if NUMBER.fullmatch(self.digits) else other
 
 
 def find(line: Line, options: Options) -> Result:

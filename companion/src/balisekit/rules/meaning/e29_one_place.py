@@ -1,19 +1,25 @@
 """E29: track condition at two places.
 
-What it says. Packets of two groups state different places or lengths of what looks like one track condition. The rule
-rests on SUBSET-026, 3.12.1 and 7.4.2.
-- The packets are 68 (track condition), 71 (adhesion factor) and 138 (reversing area). The packets 39, 40, 67, 69 and 88
-  are compared too if `layouts` in `[check]` names them, because balisekit is not sure of their layouts.
-- Conditions of one kind are compared on one track, for trains that run the same way, if they begin at most 200 m from
-  each other. If one packet has both of them, they are two conditions.
-- Conditions are of one kind if they have the same NID_PACKET and, if the packet has one, the same value, such as
-  M_TRACKCOND or M_ADHESION. Conditions with different values are not compared.
-- Changes to one traction system (packet 39) and level crossings with one NID_LX (packet 88) are compared up to 2 km.
+What it says. Packets state different places, lengths or kinds of what looks like one track condition. The rule rests on
+SUBSET-026, 3.12.1 and 7.4.2.
+- The rule compares packets 68 (track condition), 71 (adhesion factor) and 138 (reversing area). It also compares the
+  packets 39, 40, 67, 69 and 88 that `layouts` in `[check]` names, because balisekit is not sure of their layouts.
+- Conditions are of one kind if they have the same NID_PACKET. If the packet has such a value as M_TRACKCOND or
+  M_ADHESION, this value must be the same too.
+- Two conditions of one kind look like one condition if they begin at most 200 m from each other. They must be on one
+  track, and for trains that run the same way.
+- For changes to one traction system (packet 39) and level crossings with one NID_LX (packet 88) the limit is 2 km
+  instead of 200 m.
+- The place and length that most groups give count as right, and each other place or length is reported. If several are
+  equally frequent, those at the lowest kilometre count as right.
+- Two messages might state different kinds at the same place with the same length. The kind that most groups state
+  counts as right, and the other kind is reported. Two aspects of one group are two messages here.
+- Two kinds are not reported if one message of the table has both of them at one place of this track and direction. Two
+  places or lengths are not reported if one packet has both conditions.
 - Places and lengths may differ by `--tolerance` (default 1 m) and rounding.
-- The place and length that most groups give count as right. Of equally frequent ones, those at the lowest kilometre
-  count.
-- A group within the condition might send only the rest of it. Such a packet has the distance 0, and it agrees if the
-  end of the condition is the same.
+- A group within the condition might send only the rest of the condition. Such a packet has the distance 0, and is not
+  reported if the end of the condition is the same.
+- Packets that follow a packet 136 are counted as not compared.
 
 Why it matters. At worst the train gets wrong information: the driver stops in a tunnel, or switches the power off too
 late.
@@ -21,16 +27,17 @@ late.
 Example. Before (`examples/meaning/mistakes/E29.csv`): Signal 4 (km 14.500) has a condition at km 15.650, and Signal 3
 has it at km 15.500, both for 300 m. After: both have it at km 15.500.
 
-When it is a false alarm. The rule assumes that conditions of one kind within 200 m are one condition. Two short ones
-might follow each other, and each group might send only one of them. It assumes that all packets state the condition
-exactly. One of them might be longer on purpose, to be on the safe side. {leaving} {kilometres} {missing} {one way}
+When it is a false alarm. The rule assumes that conditions of one kind within 200 m are one condition. Two short
+conditions might follow each other, and each group might send only one of them. It assumes that all packets state the
+condition exactly. A packet might state a longer condition on purpose, to be on the safe side. {leaving} {kilometres}
+{missing} {one way}
 
-Usual cause. A distance was not generated again for the second group. Or the condition was moved, and one group was
+Usual cause. A distance was not generated again for the second group, or the condition was moved and one group was
 forgotten.
 
 How to correct it. Correct the distances and lengths according to the list of track conditions.
 
-How to accept it. Name both conditions in the list, or state why one of the groups announces more of it.
+How to accept it. Name both conditions in the list, or state why one of the groups announces a longer condition.
 
 How sure. 87 %, by practice and memory of the standard.
 """
@@ -38,6 +45,7 @@ from __future__ import annotations
 
 from collections import Counter
 from decimal import Decimal
+from functools import partial
 from typing import AbstractSet, Dict, Iterator, List, Sequence, Set, Tuple
 
 from balisekit.etcs.packets import packet_name
@@ -48,9 +56,13 @@ from balisekit.rules.decoded import tolerance_of_lengths
 from balisekit.rules.line import Line
 from balisekit.rules.meaning.along import parts, passed_over
 from balisekit.rules.meaning.conditions import LAYOUTS, Condition, conditions_of
+from balisekit.rules.meaning.one_kind import of_two_kinds
 from balisekit.rules.meaning.sent import sent
 from balisekit.rules.meaning.words import at_place, merged, source
 from balisekit.rules.rule import Options, Remark, Result, Rule, Urgency
+
+INFILL = "behind a packet 136"
+"""Why a packet is not compared: its distances count from another group."""
 
 
 def find(line: Line, options: Options) -> Result:
@@ -63,18 +75,23 @@ def find(line: Line, options: Options) -> Result:
         near = LAYOUTS[kind[0]].near
         for part in parts(sorted(some, key=lambda each: each.place), near):
             found += _compare(line, options, part, near)
+    found += of_two_kinds(line.decoded, trusted, partial(_agree, line, options))
     lacks = passed_over(line.decoded, lambda packet: packet.number in trusted)
     return Result.of_places(merged(found), looked_at, lacks, +Counter(_left(line, trusted)))
 
 
 def _left(line: Line, trusted: AbstractSet[int]) -> Iterator[str]:
     """Why conditions are not compared, of which the kilometres are known: once for each packet."""
+    said = {id(packet) for passage in line.decoded.passages for packet in passage.said}
+    behind = {id(packet) for passage in line.decoded.passages for packet in passage.infill} - said
     for _, packet in sent(line.decoded, *LAYOUTS):
         content = content_of(packet.form)
         if packet.number not in trusted:
             yield "layout not sure"
         elif content is None or content.fault:
             yield "not decoded"
+        elif id(packet) in behind:
+            yield INFILL
 
 
 def _is_trusted(number: int, options: Options) -> bool:

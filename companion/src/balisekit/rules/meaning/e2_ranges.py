@@ -1,9 +1,12 @@
 """E2: speed or gradient out of range.
 
 What it says. V_MAIN, V_LOA, V_STATIC, V_DIFF, V_TSR or V_MAMODE is above `--line-speed` (default 350 km/h), a release
-speed above `--release-speed` (default 40 km/h), or G_A above 40 ‰. Special values, such as the end mark, are no speeds
-or gradients. With `--rules E2` the rule also reports a V_MAIN that is above the greatest speed of the speed profiles in
-the same message. The rule rests on SUBSET-026, 3.8, 3.11 and 7.5.1.
+speed is above `--release-speed` (default 40 km/h), or G_A is above 40 ‰. The rule rests on SUBSET-026, 3.8, 3.11 and
+7.5.1.
+- Special values, such as the end mark, do not count as speeds or gradients.
+- V_TSR is in packet 65, and V_MAMODE in packet 80. The rule reads both by balisekit's own layouts.
+- With `--rules E2` the rule also reports a V_MAIN that is above the greatest speed of the speed profiles in the same
+  message.
 
 Why it matters. At worst the train gets wrong information. A speed that is too great does not restrict the train. With a
 wrong gradient the train brakes too early or too late.
@@ -13,9 +16,9 @@ Example. Before (`examples/meaning/mistakes/E2.csv`): at "green" of Signal 3 (km
 
 When it is a false alarm. The rule assumes that its limits hold for all trains. That is not so if the line is faster or
 steeper, or if it has greater release speeds. V_DIFF for tilting trains can be above the limit too. The rule also
-assumes that each speed restricts. Some projects send a great speed to say that it does not restrict. The rule also
-assumes, with `--rules E2`, that the speed profile in the message contains the fastest stretch of the route. Another
-group might send that stretch.
+assumes that each speed restricts the train. Some projects send a great speed on purpose, so that it does not restrict
+the train. The rule also assumes, with `--rules E2`, that the speed profile in the message contains the fastest stretch
+of the route. Another group might send the profile of that stretch.
 
 Usual cause. A speed was entered in km/h and not in steps of 5 km/h. So 100 means 500 km/h. Or a gradient was entered in
 tenths of a per mille.

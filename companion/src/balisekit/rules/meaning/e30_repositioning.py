@@ -2,28 +2,32 @@
 
 What it says. A packet 5 announces a group with repositioning information that is not there, or L_SECTION of a packet 16
 (repositioning information) does not lead to a linked group. The rule rests on SUBSET-026, 3.4.4, 3.8.5 and 7.4.2.
-- A link with NID_BG 16,383 (not known) announces a group with a packet 16, whose identity depends on the route. It is
-  reported if no group of the table has a packet 16 for trains that run this way. Groups of other tracks count too.
-- Such a link is only reported if D_LINK leads to a place between the ends of the table's track. It is not compared if a
-  group that might have the packet 16 has a refused telegram or an unknown direction.
-- L_SECTION is compared with the packets 5 of the same message. It is reported if the section ends more than 50 m from
-  each group that these packets name.
+- Announced group: a link with NID_BG 16,383 (not known) announces a group with a packet 16. The identity of this group
+  depends on the route. The rule reports the link if no group of the table has a packet 16 for trains that run the same
+  way. Groups of other tracks count too.
+- Section: L_SECTION of a packet 16 is compared with the packets 5 of the same message. The rule reports a section that
+  ends more than 50 m from each group that these packets name. `--tolerance` (default 1 m) and rounding are added to the
+  50 m.
+- A link is reported only if D_LINK leads to a place between the first and the last group of its track.
+- No link is compared if the table has a group with a refused telegram, because this telegram might have the packet 16.
+  The same holds if a group with a packet 16 has an unknown direction.
+- A packet 16 is not compared if no packet 5 of its message names a group.
 
-Why it matters. At worst the train gets wrong information: the section of its authority ends at another place than the
-signal. Without the packet 16 the train keeps the length that it has got before, which might be that of another route.
+Why it matters. At worst the train gets wrong information: the section of its authority does not end at the signal.
+Without the packet 16 the train keeps the section length that it has got before, which might be for another route.
 
 Example. Before (`examples/meaning/mistakes/E30.csv`): Signal 3 (km 13.000) announces a group 1,000 m farther with
 NID_BG 16,383, and no group of the table has a packet 16. After: the packet 5 names Signal 4 with its NID_BG.
 
 When it is a false alarm. The rule assumes that the table has all groups of its tracks. A group with a packet 16 might
-be in another table, such as that of the next interlocking. It assumes that a section ends at a group that packets 5
-name. It might also end at a buffer stop or a board. {kilometres} {one way}
+be in another table, such as the table of the next interlocking. It assumes that a section ends at a group that packets
+5 name. The section might also end at a buffer stop or a board. {kilometres} {one way}
 
-Usual cause. The packet 16 was forgotten, or NID_BG was left at the value of a template. Or a signal was moved.
+Usual cause. The packet 16 was forgotten, NID_BG was left at the value of a template, or a signal was moved.
 
 How to correct it. Add the packet 16, name the group in the packet 5, or correct L_SECTION.
 
-How to accept it. Name the group that has the packet 16, or what is at the end of the section.
+How to accept it. Name the group that has the packet 16, or state what is at the end of the section.
 
 How sure. 87 %, by practice and memory of the standard.
 """

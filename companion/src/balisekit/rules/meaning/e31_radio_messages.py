@@ -1,26 +1,35 @@
 """E31: radio message that does not fit the line.
 
-What it says. A radio message names a group that the table does not have, or a place where the train cannot be. The rule
-rests on SUBSET-026, 3.4.3, 3.6.2 and 8.7.
-- A message 3 (movement authority) or a position report (packet 0 or 1 of a message 136) has an NID_LRBG that no group
-  of the table has. NID_BG 16,383 means that the group is not known, and it is not reported. If a group of the table has
-  a refused telegram, NID_LRBG is not compared.
-- In a position report D_LRBG leads beyond the next linked group of the track, by more than L_DOUBTOVER, Q_SCALE and
-  `--tolerance` (default 1 m).
-- Two position reports of one NID_ENGINE have the same T_TRAIN, and different groups or distances.
+What it says. A radio message names a group that the table does not have, or a place at which the train cannot be. The
+rule rests on SUBSET-026, 3.4.3, 3.6.2 and 8.7.
+- Unknown group: a message 3 (movement authority) or a position report has an NID_LRBG that no group of the table has. A
+  position report is packet 0 or 1 of a message 136.
+- Passed group: D_LRBG of a position report leads beyond the next linked group of the track by more than the tolerance
+  below. The train should then have reported its position from that group.
+- Two positions: two position reports of one NID_ENGINE have the same T_TRAIN, but different groups, distances or sides
+  of the group.
+- The tolerance of D_LRBG is the sum of L_DOUBTOVER, one unit of Q_SCALE, `--tolerance` (default 1 m) and one unit of
+  the kilometres' last digit. This unit is at most 1 m. L_DOUBTOVER is how far the train might be in rear of the place
+  that it reports.
+- Distances of two reports with different Q_SCALE may differ by the greater unit, because of the rounding. Distances
+  with the same Q_SCALE must be equal.
+- NID_BG 16,383 means that the group is not known, and it is not reported. No unknown group is reported if the table has
+  a group with a refused telegram. A T_TRAIN or L_DOUBTOVER whose value means "not known" is not compared.
 
-Why it matters. At worst the train gets wrong information: an authority counts from a group that it has not passed.
+Why it matters. At worst the train gets wrong information: an authority counts from a group that the train has not
+passed.
 
 Example. Before (`examples/meaning/mistakes/E31.csv` with `examples/meaning/mistakes/E31-messages.txt`): the second
-message has the NID_LRBG of group 77, and the table has no such group. After: it has that of Signal 3, group 3.
+message has the NID_LRBG of group 77, and the table has no such group. After: the message has the NID_LRBG of Signal 3,
+which is group 3.
 
 When it is a false alarm. The rule assumes that the table has all groups of the messages. A table of a part of the line
-lacks some of them. The rule assumes that a train reports its position from the last linked group. It might have missed
-this group, or ignored it because no packet 5 announced it. D_LRBG leads to its front, which might also be some metres
-beyond a group that its antenna has not read yet. The rule also assumes that a T_TRAIN does not occur twice. The clock
-of a train might begin anew after a stop without power. {kilometres}
+lacks some of them. The rule assumes that a train reports its position from the last linked group. The train might have
+missed this group, or ignored it because no packet 5 announced it. D_LRBG leads to the front of the train, which might
+be some metres beyond a group that its antenna has not read yet. The rule also assumes that a T_TRAIN does not occur
+twice. The clock of a train might begin anew after a stop without power. {kilometres}
 
-Usual cause. The messages were made for another release of the table. Or NID_LRBG or D_LRBG was typed wrongly.
+Usual cause. The messages were made for another release of the table, or NID_LRBG or D_LRBG was typed wrongly.
 
 How to correct it. Correct NID_LRBG or D_LRBG, or add the group to the table.
 
@@ -30,6 +39,7 @@ How sure. 88 %, by practice and memory of the standard.
 """
 from __future__ import annotations
 
+from collections import Counter
 from decimal import Decimal
 from typing import Any, Dict, Iterator, List, Tuple
 
@@ -39,35 +49,38 @@ from balisekit.rules.decoded import Decoded, tolerance_of_lengths
 from balisekit.rules.line import Line
 from balisekit.rules.location import NOT_KNOWN, Location
 from balisekit.rules.meaning.along import unread_of
+from balisekit.rules.meaning.reported_places import Place, lacks
 from balisekit.rules.rule import Options, Remark, Result, Rule, Urgency
 from balisekit.tables.model import Message
 from balisekit.tables.names import describe_identity, describe_message
 
 MOVEMENT_AUTHORITY, REPORT, POSITIONS = 3, 136, (0, 1)
 """NID_MESSAGE of both messages, and NID_PACKET of position reports."""
-NOT_KNOWN_TIME, NOT_KNOWN_DISTANCE = 4_294_967_295, 32_767
+NOT_KNOWN_TIME = 4_294_967_295
 NOT_WHOLE = "a group of the table is refused"
 """Why nobody knows whether the table has a group."""
-Place = Tuple[int, ...]
-"""A position report: its group, distance and side."""
 
 
 def find(line: Line, options: Options) -> Result:
     """Looks at each message."""
     decoded, found = line.decoded, []
+    left: Counter[str] = Counter()
     reported: Dict[Tuple[int, int], Tuple[Message, Place]] = {}
     is_whole = not any(unread_of(decoded))
     for message, form in line.messages:
+        whys = []
         for own in _groups(form):
             identity = own["nid_c"], own["nid_bg"]
             if is_whole and identity[1] != NOT_KNOWN and identity not in decoded.by_identity:
                 words = f"NID_LRBG is that of {describe_identity(identity)}, and the table has no such group"
                 found.append(_remark(message, words, {"nid_bg": Decimal(identity[1])}))
+            whys += [] if is_whole else [NOT_WHOLE]
         for report in _positions(form):
-            found += _beyond(decoded, options, message, report)
             found += _at_once(reported, message, dict(form), report)
-    left = 0 if is_whole else sum(any(True for _ in _groups(form)) for _, form in line.messages)
-    return Result(found, len(line.messages) - left, {NOT_WHOLE: left} if left else {}, is_optional=True)
+            whys.append(lacks(decoded, report))
+            found += [] if whys[-1] else _beyond(decoded, options, message, report)
+        left.update([next(filter(None, whys))] if any(whys) else [])
+    return Result(found, len(line.messages) - sum(left.values()), left, is_optional=True)
 
 
 def _groups(form: Any) -> Iterator[Any]:
@@ -90,15 +103,14 @@ def _remark(message: Message, words: str, values: Dict[str, Decimal]) -> Remark:
 def _beyond(decoded: Decoded, options: Options, message: Message, report: Any) -> Iterator[Remark]:
     """A train that is beyond the next linked group."""
     data = decoded.by_identity.get((report["nid_c"], report["nid_bg"]))
-    side = report["q_dlrbg"]
-    if data is None or data.place is None or side > 1 or report["d_lrbg"] == NOT_KNOWN_DISTANCE:
+    if data is None or data.place is None:
         return
-    way, unit = data.group.along(DIRECTIONS[1 - side]), UNITS[report["q_scale"]]
+    way, unit = data.group.along(DIRECTIONS[1 - report["q_dlrbg"]]) or 0, UNITS[report["q_scale"]]
     distance, doubt = (report[key] * unit for key in ("d_lrbg", "l_doubtover"))
     ahead: List[Tuple[int, Any]] = [
         ((each.place - data.place) * way, each.group)
         for each in decoded.along.get(data.group.track, ())
-        if way is not None and each.place is not None and each.group.linked
+        if each.place is not None and each.group.linked
     ]
     following = min((each for each in ahead if each[0] > 0), key=lambda each: each[0], default=None)
     allowed = tolerance_of_lengths(options.tolerance_of_places, unit, doubt) + decoded.resolution
@@ -115,13 +127,11 @@ def _at_once(
     reported: Dict[Tuple[int, int], Tuple[Message, Place]], message: Message, form: Any, report: Any
 ) -> Iterator[Remark]:
     """A train that was at another place at the same time."""
-    unit = UNITS[report["q_scale"]]
-    place = report["nid_c"], report["nid_bg"], report["d_lrbg"] * unit, report["q_dlrbg"]
+    place = Place.of(report)
     first, other = reported.setdefault((form["nid_engine"], form["t_train"]), (message, place))
-    if form["t_train"] != NOT_KNOWN_TIME and other != place:
-        own, its = (f"{metres(each[2])} from {describe_identity((each[0], each[1]))}" for each in (place, other))
+    if form["t_train"] != NOT_KNOWN_TIME and place.differs(other):
         words = (
-            f"at T_TRAIN {form['t_train']} the train {form['nid_engine']} is {own}, and {its} by the message of "
+            f"at T_TRAIN {form['t_train']} the train {form['nid_engine']} is {place}, and {other} by the message of "
             f"{describe_message(first)}"
         )
         made = _remark(message, words, {"t_train": Decimal(form["t_train"])})

@@ -1,20 +1,22 @@
 """E3: authority that contradicts itself.
 
-What it says. Values of a packet 12 or 15 contradict each other, such as an overlap that ends before the danger point.
-The rule rests on SUBSET-026, 3.8 and 7.4.2, and reports these cases:
+What it says. A packet 12 or 15 contains values that contradict each other, such as an overlap that ends before the
+danger point. The rule rests on SUBSET-026, 3.8 and 7.4.2, and reports these cases:
 - The L_SECTION of a section is 0.
 - A D_SECTIONTIMERSTOPLOC is beyond the end of its section.
 - D_ENDTIMERSTARTLOC or D_STARTOL is above the sum of all lengths, and this sum is above 0.
 - D_OL is below D_DP, so the overlap ends before the danger point.
 - V_MAIN is above 0, although the sum of all lengths is 0.
 - V_LOA is greater than V_MAIN.
-- T_SECTIONTIMER, T_ENDTIMER or T_OL is 0 s, or T_LOA is 0 s and V_LOA is above 0.
-- V_LOA is 0, and T_LOA is not 1,023 (no time limit).
-- V_LOA is above 0 with T_LOA 1,023, and there is a danger point or an overlap.
+- T_SECTIONTIMER, T_ENDTIMER or T_OL is 0 s.
+- T_LOA is 0 s, although V_LOA is above 0.
+- T_LOA is not 1,023 (no time limit), although V_LOA is 0.
+- There is a danger point or an overlap, although V_LOA is above 0 and T_LOA is 1,023. Then the authority never becomes
+  an end of authority, which would need them.
 
 Why it matters. At worst the train gets wrong information. A timer starts at a place that the train has already passed,
-or stops at a place beyond its section. The train supervises an overlap that ends before its danger point. Or it might
-run at V_MAIN without any length.
+or stops at a place beyond its section. The train supervises an overlap that ends before its danger point. Or the train
+might run at V_MAIN although its authority has no length.
 
 Example. Before (`examples/meaning/mistakes/E3.csv`): at "green" of Signal 3 (km 13.003) the overlap has D_OL 200 m, and
 the danger point has D_DP 250 m. After: the overlap ends at the danger point or beyond it, so D_OL is at least 250 m.
@@ -22,9 +24,9 @@ the danger point has D_DP 250 m. After: the overlap ends at the danger point or 
 When it is a false alarm. The rule assumes that trains use each value. A template might fill in a section of 0 m, a
 T_LOA, a danger point or an overlap that no train uses. The rule assumes that timers start and stop within their
 lengths. A timer might stop later on purpose, or start in rear of the group. It assumes that a timer of 0 s is not meant
-to end a section at once. It assumes that V_LOA restricts the train.
-A project might send a V_LOA above V_MAIN on purpose, so that it does not. The rule also assumes that a V_MAIN above 0
-needs a length. A V_MAIN above 0 without any length can be right at a signal at danger, often after a packet 136.
+to end a section at once. It assumes that V_LOA restricts the train. A project might send a V_LOA above V_MAIN on
+purpose, so that V_LOA does not restrict the train. The rule also assumes that a V_MAIN above 0 needs a length. A V_MAIN
+above 0 without any length can be right at a signal at danger, often after a packet 136.
 
 Usual cause. A length was changed, and the timers or the overlap were not. Or Q_SCALE was changed for some of the
 values. Or a value of another signal was copied.

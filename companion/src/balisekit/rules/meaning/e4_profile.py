@@ -2,30 +2,32 @@
 
 What it says. A gradient or speed profile has elements that contradict or repeat each other, such as two elements at one
 place. The rule rests on SUBSET-026, 3.11 and 7.4.2, and reports these cases:
-- Two elements are at one place, because the second one has D_GRADIENT or D_STATIC 0.
-- Elements follow the end mark, or the end mark is the first element.
+- Two elements are at one place, because the second element has D_GRADIENT or D_STATIC 0.
+- The end mark is the first element, or other elements follow the end mark.
 - An element of a speed profile has V_STATIC 0.
-- An element needlessly repeats the one before it: it has the same gradient, or the same speed, Q_FRONT and categories.
-  It is needless if a single distance of at most 32,767 units could cover both.
+- An element repeats the element before it. In a gradient profile both have the same gradient. In a speed profile both
+  have the same speed, Q_FRONT and train categories.
 - An element has the same train category twice.
 - A V_DIFF by cant deficiency is below V_STATIC, or falls while NC_CDDIFF rises.
+- A repeated element is not reported if a single distance of at most 32,767 units cannot cover both elements.
 
-Why it matters. At worst the train gets wrong information. Of two elements at one place only one can hold. What follows
-an end mark is not used. A repeated element often hides a change of speed or gradient that was meant.
+Why it matters. At worst the train gets wrong information. Only one of two elements at one place can hold. The train
+does not use the elements that follow an end mark. A repeated element often hides a change of speed or gradient that was
+meant.
 
 Example. Before (`examples/meaning/mistakes/E4.csv`): in the gradient profile of Signal 3 at "green" the second element
-(km 13.100) repeats the -18 ‰ of the first one. After: the second element is gone, and the distance of the next one is
-100 m greater.
+(km 13.100) repeats the -18 ‰ of the first element. After: the second element is gone, and the distance of the next one
+is 100 m greater.
 
 When it is a false alarm. The rule assumes that trains run over the complete profile. Beyond a buffer stop or an end of
 authority, and at a stop aspect, a profile may have 0 km/h or no length. The rule assumes that trains use V_STATIC. If
 each train category has its own V_DIFF, V_STATIC may be 0, or may be for a greater cant deficiency. It assumes that more
-cant deficiency never means less speed, which is not so if tilting trains have a restriction of their own. Finally, it
-assumes that each element and category is needed. A tool might begin an element at each boundary of its data, or fill up
-with end marks.
+cant deficiency never means less speed. That is not so if tilting trains have a restriction of their own. Finally, it
+assumes that each element and category is needed. A tool might begin an element at each boundary of its data, or fill
+the rest of a packet with end marks.
 
-Usual cause. The elements were sorted wrongly, or one was entered twice. Or a distance was forgotten. Or an end mark is
-left from a shorter profile, or a value of the categories was typed wrongly.
+Usual cause. The elements were sorted wrongly, or an element was entered twice. Or a distance was forgotten. Or an end
+mark is left from a shorter profile, or a value of the categories was typed wrongly.
 
 How to correct it. Correct or remove the wrong element according to the profile of the track.
 

@@ -2,15 +2,15 @@
 
 What it says. A packet with distances holds in both directions (Q_DIR 2), so its distances count on both sides of the
 group. One remark names all such packets of a balise or message. The rule rests on SUBSET-026, 3.6.3 and 7.4.
-- The 21 packets are 5, 12, 15, 16, 21, 27, 39, 40, 41, 51, 52, 65, 67 to 71, 80, 88, 131 and 138.
-- A packet 41 with D_LEVELTR 0 or 32,767 (now) is not reported, because it takes effect at the group.
-- A packet 39, 40, 51, 52, 68 to 70 or 131 is not reported if its only distance gives the place of its group. Such a
-  distance is a D_TRACTION, D_CURRENT, D_TRACKINIT, D_SUITABILITY or D_RBCTR 0, or a D_RBCTR 32,767 (now).
-- An authority without any length and without a V_MAIN above 0 stops the trains of both directions. It is reported only
-  if the balise or message has no other packet to report.
+- The rule looks at 21 packets: 5, 12, 15, 16, 21, 27, 39, 40, 41, 51, 52, 65, 67 to 71, 80, 88, 131 and 138.
+- A packet 41 is not reported if its D_LEVELTR is 0 or 32,767 (now), because it takes effect at the group.
+- A packet 39, 40, 51, 52, 68 to 70 or 131 is not reported if the only distance of the packet gives the place of its
+  group. This distance is a D_TRACTION, D_CURRENT, D_TRACKINIT, D_SUITABILITY or D_RBCTR 0, or a D_RBCTR 32,767 (now).
+- An authority without any length and without a V_MAIN above 0 stops the trains of both directions. Such an authority is
+  reported only if the balise or message has no other packet to report.
 
 Why it matters. At worst the trains of one direction get wrong information. Trains count distances in their own
-direction. So the end of authority, the level border or the restriction is on both sides of the group.
+direction. So the packet puts an end of authority, a level border or a restriction on both sides of the group.
 
 Example. Before (`examples/meaning/mistakes/E5.csv`): the packet 41 of Signal 4 (km 14.500) has D_LEVELTR 2200 m and
 Q_DIR 2. After: Q_DIR is 1, so only trains in nominal direction count the distance.
@@ -18,7 +18,8 @@ Q_DIR 2. After: Q_DIR is 1, so only trains in nominal direction count the distan
 When it is a false alarm. The rule assumes that trains of both directions get the packet. That is not so on a track for
 one direction, or for a radio message. It assumes that the track differs on both sides. Level track, one speed, big
 metal masses or a restriction around the group are the same on both sides. It also assumes that an authority without
-length is for one direction. A group for the signals of both directions might stop the trains of both on purpose.
+length is for one direction. A group for the signals of both directions might stop the trains of both directions on
+purpose.
 
 Usual cause. The template had Q_DIR 2. Or the packet was meant for one direction, and a single balise with Q_LINK 0 has
 no direction.

@@ -1,19 +1,22 @@
 """E6: packets of one message.
 
-What it says. A balise has a packet that only radio or loops send, or a late packet 0, or a train gets two packets 5 or
-two authorities at once. The rule rests on SUBSET-026, 7.4, 8.4.4 and 8.7. A packet 0 is late if another packet comes
-before it.
+What it says. A balise has a packet that only radio or loops send, or a late packet 0, or a train gets two packets 5 at
+once. The rule also reports a message 3 with a second packet 15 or with a packet 12. The rule rests on SUBSET-026, 7.4,
+8.4.4 and 8.7.
 - Only radio sends the packets 15, 57, 58, 63 and 140, and only loops send packet 13.
-- A message 3 has exactly one authority: one packet 15, and no packet 12. The program refuses it without a packet 15.
+- A packet 0 in a balise is late if another packet of the telegram comes before it.
 - A train gets two packets 5 at once if both are in one message and hold in one direction. Packets before and after a
   packet 136 are counted separately.
+- A message 3 must have exactly one authority, which is a packet 15. The program refuses a message 3 without a packet
+  15.
 - With `--rules E6` the rule also reports two different packets of one kind in one direction. The kinds are 2, 3, 12,
   16, 21, 27, 41, 45, 46, 80, 131, 132, 136, 137, 141 and 254.
-- With `--rules E6` it also reports a packet 64 in a balise. In a message 3 it then reports a packet 0, 6, 13, 16, 46,
-  90, 132 to 137, 145 or 254.
+- With `--rules E6` the rule also reports a packet 64 in a balise. It then also reports these packets in a message 3: 0,
+  6, 13, 16, 46, 90, 132 to 137, 145 and 254.
 
-Why it matters. At worst the train gets wrong information. It might use either of two packets, or reject the message. It
-does not use a packet that only radio sends, and it looks for a packet 0 only at the beginning of a telegram.
+Why it matters. At worst the train gets wrong information. The train might use either of two packets, or reject the
+message. A train does not use a packet of a balise that only radio sends. It looks for a packet 0 only at the beginning
+of a telegram.
 
 Example. Before (`examples/meaning/mistakes/E6.csv`): at "yellow" of Signal 3 (km 13.003) a train gets 2 packets 5 in
 nominal direction, in rows 10 and 12. After: only row 10 has a packet 5.

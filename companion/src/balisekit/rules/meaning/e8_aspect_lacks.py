@@ -1,43 +1,44 @@
 """E8: aspect that lacks what its siblings have.
 
 What it says. One aspect of a group lacks a packet that its other aspects, or other stop aspects of the table, have. The
-rule rests on SUBSET-026, 3.8.
-- Of three or more proceed aspects of a group, the only one without a packet 5, 12, 21 or 27 for a direction is
-  reported.
-- A proceed aspect has a V_MAIN above 0 in that direction. If it is the packet 12 that is missing, a V_MAIN above 0 in
-  either direction is enough.
-- An aspect might also have such a packet for the wrong direction. It is reported if it is the only one with the packet
-  for that direction, and at least two others have it only for the other direction.
-- Track conditions are the packets 39, 40, 51, 65, 67 to 71, 88, 138 and 139. The only proceed aspect without one is
-  also reported, if two other aspects have it. Its authority must reach at least the place where the authority of one of
-  these two ends, on the same route.
-- A stop aspect has a packet 12 with V_MAIN 0 that does not follow a packet 136. It is reported if it has no packet 137,
-  and at least four of five stop aspects of the table have one with "stop". The table must have at least five stop
-  aspects for this.
-- A stop aspect is also reported if it is the only one of three or more stop aspects of its group without a packet 132.
-  The table must have a stop aspect of the same name with a packet 132.
-- Aspects with a refused telegram do not count, and their group is compared only for packet 137.
+rule rests on SUBSET-026, 3.8, and reports these cases:
+- Of three or more proceed aspects of a group, only one has no packet 5, 12, 21 or 27 for a direction. A proceed aspect
+  has a V_MAIN above 0 in that direction. If the missing packet is the packet 12, a V_MAIN above 0 in either direction
+  is enough.
+- An aspect has a packet 5, 12, 21 or 27 only for the wrong direction. It is the only aspect with this packet for that
+  direction, and at least two others have it for the other direction.
+- Of the proceed aspects of a group, only one lacks a track condition that at least two other aspects have. Its
+  authority must reach at least the end of the authority of one of these other aspects. Up to there the packets 5 of
+  both aspects must name the same groups. Without packets 5 both authorities must end at the same place. Track
+  conditions are the packets 39, 40, 51, 65, 67 to 71, 88, 138 and 139.
+- A stop aspect has no packet 137, and at least four of five stop aspects of the table have one with "stop". The table
+  must have at least five stop aspects for this. A stop aspect has a packet 12 with V_MAIN 0 that does not follow a
+  packet 136.
+- Of three or more stop aspects of a group in one direction, only one has no packet 132. The table must have a stop
+  aspect of the same name with a packet 132.
+- Except for packet 137, only groups with three or more aspects are compared.
+- Aspects with a refused telegram do not count. Their group is compared only for packet 137.
 
-Why it matters. At worst the train gets wrong information, or lacks what it needs. Without profiles it might refuse the
-authority. Without linking nothing shows that it missed a group. Without packet 137 a train in staff responsible mode
-passes the signal.
+Why it matters. At worst the train gets wrong information, or lacks information that it needs. Without profiles the
+train might refuse the authority. Without linking nothing shows the train that it missed a group. Without packet 137 a
+train in staff responsible mode passes the signal.
 
 Example. Before (`examples/meaning/mistakes/E8.csv`): "green" of Signal 3 (km 13.003) has its packets 12, 21 and 27 for
-the reverse direction. "Red" and "yellow" have them for the nominal one. After: Q_DIR of the packets of "green" is 1,
-nominal.
+the reverse direction. "Red" and "yellow" have these packets for the nominal direction. After: Q_DIR of the packets of
+"green" is 1, nominal.
 
 When it is a false alarm. The rule assumes that the aspects of a group need the same packets for one direction. An
-aspect for calling-on or for another route might need fewer. A track condition might be announced at one aspect only on
-purpose, if the next signal sends it in time. An aspect that only stops trains in the other direction might also need
-fewer. The rule also assumes that all stop aspects of the table, in both directions, stop trains in staff responsible
-mode too. At some signals these trains are allowed to pass. Finally, it assumes that stop aspects of one name treat
-shunting alike, which is not so if shunting is allowed at some.
+aspect for calling-on or for another route might need fewer packets. An aspect that only stops trains in the other
+direction might also need fewer packets. A track condition might be announced at one aspect only on purpose, if the next
+signal sends it in time. The rule also assumes that all stop aspects of the table, in both directions, stop trains in
+staff responsible mode too. At some signals these trains are allowed to pass. Finally, it assumes that stop aspects of
+one name treat shunting alike. That is not so if shunting is allowed at some of these signals.
 
 Usual cause. A packet was lost, or its Q_DIR is wrong. Or the aspect was added later and is not complete.
 
 How to correct it. Add the packet, or correct Q_DIR.
 
-How to accept it. State what the aspect is for, for example calling-on, and why it needs no such packet.
+How to accept it. State what the aspect is for, for example calling-on, and why the aspect does not need the packet.
 
 How sure. 87 %, by practice and memory of the standard.
 """

@@ -1,31 +1,39 @@
 """E9: aspects in the wrong order.
 
-What it says. At this signal one proceed aspect leads as far as another one or farther, although it leads less far in
-most cases of the table. For example, yellow leads as far as green or farther. The rule rests on SUBSET-026, 3.8.
-- Most cases means at least three cases, and at least four of every five. A case is a group that has both aspects in one
-  direction.
-- Proceed aspects have a V_MAIN above 0, and the two must have different packets.
-- Authorities end at the same distance if they differ by no more than `--tolerance` (default 1 m) and the rounding of
-  lengths.
-- The rule also reports an aspect with V_MAIN 0 whose name has a V_MAIN above 0 in most cases. In the same way it
-  reports a V_MAIN above 0 if the name has V_MAIN 0 in most cases. Here a case is a group that has this aspect in one
-  direction.
+What it says. The authorities of two proceed aspects of a signal end at the same distance, or in another order than in
+most cases of the table. For example, yellow leads as far as green or farther at this signal, although yellow ends
+before green at most signals. The rule rests on SUBSET-026, 3.8.
+- The rule compares the ends of the packets 12 of each two proceed aspects of a group in one direction. A proceed aspect
+  has a V_MAIN above 0. A case is a group that has both aspects in one direction.
+- Most cases means at least three cases, and at least four of every five. A case in which both aspects end at the same
+  distance shows no order and does not count.
+- Three cases against one are enough if the two ends are more than 200 m apart in all four cases.
+- Two aspects that end at the same distance are reported only if at least four of every five cases show the usual order.
+  For this, the cases in which both aspects end at the same distance count too.
+- Two aspects with equal ends are not reported, and their case does not count, if the aspect that mostly leads farther
+  has a V_LOA above 0. A level border can be such a case.
+- Two aspects that end at the same distance are not reported if all their packets for this direction are the same. Rule
+  E7 reports such aspects instead.
+- Two ends are at the same distance if they differ by at most `--tolerance` (default 1 m) and the rounding of lengths.
+- The rule also reports an aspect with V_MAIN 0 if aspects of this name have a V_MAIN above 0 in most cases. In the same
+  way it reports a V_MAIN above 0 if the name has V_MAIN 0 in most cases. Here a case is a group that has this aspect in
+  one direction.
 - Aspects with a refused telegram do not count.
 
-Why it matters. At worst the train gets wrong information. At yellow it gets the authority of green, and might run
-beyond a signal at danger. A red aspect with V_MAIN above 0 does not stop it. Authorities that are only equal have the
-lowest urgency.
+Why it matters. At worst the train gets wrong information. At yellow the train gets the authority of green, and might
+run beyond a signal at danger. A red aspect with V_MAIN above 0 does not stop the train. A remark about two ends at the
+same distance has the lowest urgency.
 
 Example. Before (`examples/meaning/mistakes/E9.csv`): at Signal 3 "yellow" ends 3,000 m from the group and "green" 1,500
 m, and in 5 of 6 cases "yellow" ends before "green". After: "yellow" ends 1,500 m from the group, and "green" 3,000 m.
 
 When it is a false alarm. The rule assumes that an aspect name means the same at each signal. That is not so if a signal
 uses a name in another way, or if the names are numbers of routes. In a group for both directions, an aspect might also
-stop only the trains of one of them. The rule assumes that the more restrictive aspect ends first. Both might end at the
-same buffer stop or level border. Or one of them is for another track whose next signal is farther away, such as at a
-junction or at staggered exit signals.
+stop only the trains of one direction. The rule assumes that the more restrictive aspect ends first. Both aspects might
+end at the same buffer stop. Or one aspect is for another track whose next signal is farther away, such as at a junction
+or at staggered exit signals.
 
-Usual cause. The telegrams of two aspects were exchanged, or their names in the table.
+Usual cause. The telegrams of two aspects were exchanged, or their names were exchanged in the table.
 
 How to correct it. Exchange the telegrams of the two aspects, or correct their names.
 
@@ -105,9 +113,10 @@ def _ends_words(pair: Pair) -> str:
 
 
 def _usually(pair: Pair, counts: Counts) -> str:
-    count, of_how_many, _ = counts[pair.names]
+    count, of_how_many, equal, _ = counts[pair.names]
     first, second = map(quoted, pair.names)
-    return f"and in {count} of {of_how_many} cases of the table that of {first} ends before that of {second}"
+    words = f"and in {count} of {of_how_many} cases of the table that of {first} ends before that of {second}"
+    return words + (f" (in {equal} more both end at one place)" if equal else "")
 
 
 def _remark(pair: Pair, words: str, urgency: Optional[Urgency] = None) -> Remark:

@@ -2,22 +2,25 @@
 from __future__ import annotations
 
 from collections import Counter
-from typing import Any, Dict, Iterator, List, NamedTuple, Optional, Sequence, Set, Tuple
+from typing import AbstractSet, Any, Dict, Iterator, List, NamedTuple, Optional, Sequence, Set, Tuple
 
 from balisekit.etcs.variables import Around, value_words
 from balisekit.rules.decoded import Decoded
 from balisekit.rules.location import Identity
 from balisekit.rules.meaning.along import is_authority
+from balisekit.rules.meaning.orders import is_now
 from balisekit.rules.meaning.sent import tolerance
-from balisekit.rules.passages import Passage
+from balisekit.rules.passages import GroupData, Passage
 from balisekit.rules.rule import Options
-from balisekit.rules.telegrams import Link, Packet
+from balisekit.rules.telegrams import LEVELS, Link, Packet
 
 MODES, NEAR = 80, 2000
 """NID_PACKET of a mode profile, and how far in decimetres a group is from an end that is at it."""
 Value = Optional[int]
 Compared = Tuple[str, str]
 """A part of an authority, or nothing, and the key of a value."""
+LIMIT: Compared = ("", "end_speed")
+"""V_LOA."""
 
 
 class End(NamedTuple):
@@ -29,6 +32,13 @@ class End(NamedTuple):
     packet: Packet
     link: Link
     """The group."""
+    is_at_border: bool = False
+    """Whether that group orders a level."""
+
+    @property
+    def is_limit(self) -> bool:
+        """Whether trains may pass it, with V_LOA above 0: then it has no danger point and no overlap."""
+        return bool(self.value(*LIMIT))
 
     @property
     def parts(self) -> Tuple[Packet, int]:
@@ -52,36 +62,55 @@ class End(NamedTuple):
         return "absent" if form is None else value_words(key, form[key], around) or str(form[key])
 
 
-UNKNOWN, WITH_MODES, FAR, INFILL = (
+UNKNOWN, WITH_MODES, FAR, BEYOND, INFILL = (
     "by a message whose group is not in the table",
     "with a packet 80",
     "not at a group that packets 5 of its message name",
+    "beyond the last group of the track",
     "behind a packet 136",
 )
 """Why an authority is not compared."""
+USUAL = frozenset({WITH_MODES, BEYOND, INFILL})
+"""The reasons that sound lines have too."""
 
 
 def ends_at_groups(decoded: Decoded) -> Tuple[Sequence[Sequence[End]], "Counter[str]"]:
     """The authorities that end at a group, together those at one group, and how many are not compared, and why."""
     found: Dict[Tuple[Identity, bool], List[End]] = {}
     left: Counter[str] = Counter()
+    ordering = [data for data in decoded.senders.get(LEVELS, ()) if any(map(is_now, _orders(data)))]
+    borders = {data.group.identity for data in ordering}
     for passage in decoded.passages:
         own = [packet for packet in passage.said if is_authority(packet)]
         why = UNKNOWN if passage.group is None else WITH_MODES if passage.of(MODES) else FAR
-        ends = [end for packet in own for end in _end(passage, packet)] if why == FAR else []
-        left[why] += len(own) - len(ends)
+        ends = [end for packet in own for end in _end(passage, packet, borders)] if why == FAR else []
+        at_group = {id(end.packet) for end in ends}
+        far = [packet for packet in own if id(packet) not in at_group]
+        left.update(BEYOND if why == FAR and _is_beyond(decoded, passage, packet) else why for packet in far)
         left[INFILL] += sum(map(is_authority, passage.infill))
         for end in ends:
             found.setdefault((end.link.identity, end.link.nominal), []).append(end)
     return list(found.values()), +left
 
 
-def _end(passage: Passage, packet: Packet) -> Iterator[End]:
+def _is_beyond(decoded: Decoded, passage: Passage, packet: Packet) -> bool:
+    """Whether an authority ends beyond all groups of its track, so that no group could be named at its end."""
+    place, way, places = passage.place(packet.end), passage.way, decoded.places.get(passage.track, ())
+    return place is not None and way is not None and bool(places) and max(way * each for each in places) < way * place
+
+
+def _orders(data: GroupData) -> Iterator[Packet]:
+    """The packets 41 of a group."""
+    packets = (packet for telegram in data.telegrams.values() for packet in telegram.packets)
+    return (packet for packet in packets if packet.number == LEVELS)
+
+
+def _end(passage: Passage, packet: Packet, borders: AbstractSet[Optional[Identity]]) -> Iterator[End]:
     """An authority of a passage, if it ends at a group of its packets 5."""
     links = [link for link in passage.links if link.known]
     link = min(links, key=lambda each: abs(each.total - packet.end), default=None)
     if link is not None and abs(link.total - packet.end) <= NEAR:
-        yield End(packet.end - link.total, passage, packet, link)
+        yield End(packet.end - link.total, passage, packet, link, link.identity in borders)
 
 
 def at_one_place(options: Options, some: Sequence[End]) -> Iterator[Sequence[End]]:
@@ -96,16 +125,18 @@ def at_one_place(options: Options, some: Sequence[End]) -> Iterator[Sequence[End
 
 
 def usual_end(same: Sequence[End], compared: Compared, table: "Counter[Value]") -> Optional[End]:
-    """An end with the usual value. None if all have it, or if overlaps depend on the aspect."""
-    counts = Counter(end.value(*compared) for end in same)
-    if len(counts) < 2 or depends_on_aspects(same, compared):
+    """An end with the usual value. None if all have it, or if it depends on the aspect."""
+    own = [end for end in same if compared == LIMIT or not end.is_limit]
+    counts = Counter(end.value(*compared) for end in own)
+    if len(counts) < 2 or depends_on_aspects(own, compared):
         return None
-    return max(same, key=lambda each: (counts[each.value(*compared)], table[each.value(*compared)]))
+    return max(own, key=lambda each: (counts[each.value(*compared)], table[each.value(*compared)]))
 
 
 def depends_on_aspects(same: Sequence[End], compared: Compared) -> bool:
-    """Whether the aspects of one group give several overlaps."""
+    """Whether the aspects of one group give several overlaps, or several V_LOA at a limit that is none of a signal."""
     values: Dict[int, Set[Value]] = {}
-    for end in same if compared[0] == "overlap" else ():
+    for end in same if compared[0] == "overlap" or compared == LIMIT else ():
         values.setdefault(id(end.passage.group), set()).add(end.value(*compared))
-    return any(len(each) > 1 for each in values.values())
+    is_border = compared != LIMIT or any(end.is_at_border for end in same)
+    return any(len(each) > 1 and (is_border or 0 not in each) for each in values.values())

@@ -15,6 +15,8 @@ from balisekit.rules.passages import Passage
 from balisekit.rules.rule import Options, Remark
 from balisekit.rules.telegrams import SPEEDS, Packet, allowance
 
+BEHIND_POINT = "beyond a point of the plan"
+"""Why a place is not compared."""
 Speeds = Tuple[int, int]
 """The lower and the higher V_STATIC, as they are sent."""
 
@@ -36,9 +38,12 @@ class Step(NamedTuple):
         return value_words("q_front", self.front, Around(self.packet.form))
 
 
-def fronts(decoded: Decoded, options: Options) -> Sequence[Remark]:
-    """The steps whose Q_FRONT is not the usual one of their place, each once for all aspects that send it."""
-    steps = _steps_of(decoded, options)
+def fronts(decoded: Decoded, options: Options, left: Counter[str]) -> Sequence[Remark]:
+    """The steps whose Q_FRONT is not the usual one of their place, each once for all aspects that send it.
+
+    It counts what is left out.
+    """
+    steps = _steps_of(decoded, options, left)
     table = Counter(step.front for own in steps.values() for step in own)
     found: List[Remark] = []
     for own in steps.values():
@@ -48,14 +53,18 @@ def fronts(decoded: Decoded, options: Options) -> Sequence[Remark]:
     return merged(found)
 
 
-def _steps_of(decoded: Decoded, options: Options) -> Dict[Tuple[Lane, Speeds], List[Step]]:
+def _steps_of(decoded: Decoded, options: Options, left: Counter[str]) -> Dict[Tuple[Lane, Speeds], List[Step]]:
     """The steps of each track and way, by their speeds. Those beyond a point of the track plan are left out."""
     found: Dict[Tuple[Lane, Speeds], Dict[Tuple[int, str, int], Step]] = {}
     for passage in decoded.passages:
         for packet in passage.of(SPEEDS) if not passage.lacks else ():
             for number, (low, high) in enumerate(zip(packet.stretches, packet.stretches[1:])):
                 place = passage.place(high.begin)
-                if low.value < high.value and place is not None and not leaves(options, decoded, passage, place):
+                if low.value >= high.value or place is None:
+                    continue
+                is_behind = leaves(options, decoded, passage, place)
+                left[BEHIND_POINT] += is_behind
+                if not is_behind:
                     speeds = low.value, high.value
                     step = Step(place, speeds, low.element["q_front"], number, passage, packet)
                     found.setdefault((lane_of(passage), speeds), {})[id(packet), passage.direction, number] = step

@@ -12,8 +12,8 @@ from balisekit.rules.passages import GroupData
 from balisekit.rules.telegrams import SPEEDS, Packet
 
 AUTHORITY, MODES = 12, 80
-GO = 1
-"""The Q_SRSTOP and Q_ASPECT that let a train run."""
+NATIONAL = 127
+"""The V_MAMODE of the national values."""
 LEAST = 5
 """The fewest signals whose aspects of one name are compared."""
 REFUSED = "aspects of groups with a refused telegram"
@@ -56,10 +56,14 @@ class Case(NamedTuple):
         return int(packet.form["v_main"]) if packet else 0
 
     @property
+    def speeds(self) -> Sequence[int]:
+        """Each V_STATIC that it sends."""
+        return [each.value for packet in self.packets if packet.number == SPEEDS for each in packet.stretches]
+
+    @property
     def of_profile(self) -> int:
         """The greatest V_STATIC that it sends, or 0 if it sends no speed profile."""
-        own = (each.value for packet in self.packets if packet.number == SPEEDS for each in packet.stretches)
-        return max(own, default=0)
+        return max(self.speeds, default=0)
 
 
 Cases = Mapping[str, Sequence[Case]]
@@ -191,7 +195,7 @@ def signals_of(cases: Sequence[Case]) -> int:
     return len({case.signal for case in cases})
 
 
-def _at(count: int, others: int = 0) -> str:
+def at_signals(count: int, others: int = 0) -> str:
     """Where others agree: `at all 5 other signals`, or `at 4 of 5 other signals`."""
     if count < others:
         return f"at {count} of {others} other signals"
@@ -199,39 +203,50 @@ def _at(count: int, others: int = 0) -> str:
 
 
 def lacking(cases: Sequence[Case], few: Sequence[Case], number: int) -> Tuple[Sequence[Case], int]:
-    """The cases without a packet that at least four of five signals have, and how many signals have it.
+    """The cases without a packet, and how many signals have it in all their cases.
 
     `few` are cases that do not count among these signals.
     """
     without = [case for case in cases if case.first(number) is None]
     having = signals_of(cases) - signals_of(without)
-    if signals_of(cases) < LEAST or having * 5 < signals_of(cases) * 4:
-        return (), having
     return [*without, *(case for case in few if case.first(number) is None)], having
 
 
-def odd_values(cases: Cases) -> Iterator[Odd]:
-    """The values of one signal that no other aspect of the table has, if all others of the name have the same one."""
+class Differing(NamedTuple):
+    """Values that differ from those of other signals."""
+
+    odd: Sequence[Odd]
+    """Those of one signal that no other aspect of the table has, if all others of the name have the same one."""
+    left: Sequence[Case]
+    """The aspects of the others, which several signals have."""
+
+
+def odd_values(cases: Cases) -> Differing:
+    """The values of packets 12 and 80 that are not the usual ones of their aspect."""
     by_part, alone = _values_of(cases), _lengths_of_one(cases)
+    found: List[Odd] = []
+    left: List[Case] = []
     for (_, key), by_name in by_part.items():
         compared = {name: [each for each in own if not _is_of_a_place(each, alone)] for name, own in by_name.items()}
         for name, own in compared.items():
-            numbers = [each.compared for each in own]
-            counts = Counter(numbers)
+            counts = Counter(each.compared for each in own)
             most = max(counts, key=counts.__getitem__, default=0)
-            odd = [each for each, number in zip(own, numbers) if number != most] if len(counts) > 1 else []
-            if signals_of([each.case for each in odd]) != 1:
+            usual = next((each for each in own if each.compared == most), None)
+            if usual is None or signals_of([each.case for each in own]) < LEAST:
                 continue
-            usual = own[numbers.index(most)]
-            rest = signals_of([each.case for each in own]) - 1
-            if rest >= LEAST - 1 and not _is_elsewhere(odd, compared):
-                others = _at(*_agreeing(by_name[name], odd[0].case.signal, usual))
+            odd = [each for each in own if each.compared != most]
+            odd = [each for each in odd if not _is_slow_route(each.case, key, each.sent, usual.sent)]
+            if signals_of([each.case for each in odd]) == 1 and not _is_elsewhere(odd, compared):
+                others = at_signals(*agreeing(by_name[name], odd[0].case.signal, usual))
                 for each in odd:
                     words = f"{each.name} is {each.words}, and {usual.words} {others} with it"
-                    yield Odd(each.case, each.packet, key, words, each.sent, usual.sent)
+                    found.append(Odd(each.case, each.packet, key, words, each.sent, usual.sent))
+            else:
+                left += [each.case for each in odd]
+    return Differing(found, left)
 
 
-def _agreeing(values: Sequence[Value], signal: Tuple[int, str], usual: Value) -> Tuple[int, int]:
+def agreeing(values: Sequence[Value], signal: Tuple[int, str], usual: Value) -> Tuple[int, int]:
     """How many signals, apart from one, have the usual value at their aspect, and how many have any."""
     others = [each for each in values if each.case.signal != signal]
     some = ([each.case for each in others if each.compared == usual.compared], [each.case for each in others])
@@ -289,39 +304,30 @@ def _is_of_a_place(value: Value, alone: Set[Tuple[str, int]]) -> bool:
     return bool(alone) and not alone.isdisjoint(own)
 
 
-def contrary_orders(cases: Cases) -> Iterator[Odd]:
-    """The packets 137 and 132 of one signal that contradict V_MAIN, if the aspect has the other value elsewhere."""
-    for own in cases.values():
-        for number, key in ((137, "q_srstop"), (132, "q_aspect")):
-            packets = [(case, case.first(number)) for case in own]
-            values = [
-                Value(case, packet, packet.form, key) for case, packet in packets if packet and key in packet.form
-            ]
-            wrong = [each for each in values if _contradicts(each)]
-            signals = {each.case.signal for each in wrong}
-            for each in wrong if len(signals) == 1 else ():
-                other = next((one for one in values if one.sent != each.sent), None)
-                if other and other.case.signal not in signals:
-                    words = f"{each.name} is {each.words}, although V_MAIN is {speed(each.case.speed)}"
-                    rest = f"{other.words} {_at(*_agreeing(values, each.case.signal, other))} with it"
-                    yield Odd(each.case, each.packet, key, f"{words}, and {rest}", each.sent, other.sent)
-
-
-def _contradicts(value: Value) -> bool:
-    """Whether it says go beside V_MAIN 0, or packet 137 says stop beside a V_MAIN above 0."""
-    if value.case.first(AUTHORITY) is None:
+def _is_slow_route(case: Case, key: str, sent: int, usual: int) -> bool:
+    """Whether a low V_MAIN or V_MAMODE may be that of a slow route on which a train is in another mode."""
+    if case.first(MODES) is None or key not in ("v_main", "v_mamode") or sent >= usual:
         return False
-    return value.sent == GO if not value.case.speed else value.sent != GO and value.key == "q_srstop"
+    speeds = case.speeds
+    return sent in speeds or usual < NATIONAL and min(speeds, default=NATIONAL) <= usual
+
+
+def _is_alone_with_mode(case: Case, own: Sequence[Case]) -> bool:
+    """Whether an aspect has a packet 80, and less than half of the aspects of this name have one."""
+    return case.first(MODES) is not None and 2 * sum(each.first(MODES) is not None for each in own) < len(own)
 
 
 def odd_speeds(cases: Cases) -> Sequence[Odd]:
     """The V_MAIN that differ from what is usual at their aspect.
 
     Those that restrict a whole signal are left out. So are those that only differ from their speed profile, and that
-    another aspect of the signal has too: then it is the profile that differs.
+    another aspect of the signal has too: then it is the profile that differs. An aspect with a mode profile is not
+    compared with those that have none.
     """
     moving = {name: [case for case in own if case.speed] for name, own in cases.items()}
+    moving = {name: [case for case in own if not _is_alone_with_mode(case, own)] for name, own in moving.items()}
     odd = [each for own in moving.values() for each in _odd_speeds(own)]
+    odd = [each for each in odd if not _is_slow_route(each.case, each.key, each.sent, each.usual)]
     speeds: Dict[Tuple[int, str], List[int]] = {}
     for own in moving.values():
         for case in own:
@@ -338,7 +344,7 @@ def odd_speeds(cases: Cases) -> Sequence[Odd]:
 def _odd_speeds(cases: Sequence[Case]) -> Iterator[Odd]:
     """The V_MAIN of one signal that are not the greatest V_STATIC, or the speed, that they are at all others."""
     rest = signals_of(cases) - 1
-    others = _at(rest)
+    others = at_signals(rest)
     own = [case for case in cases if case.speed != case.of_profile]
     if rest >= LEAST - 1 and signals_of(own) == 1:
         usual = {case.speed for case in cases if case.speed == case.of_profile}

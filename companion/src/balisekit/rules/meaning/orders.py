@@ -3,6 +3,7 @@ from __future__ import annotations
 
 from collections import Counter
 from decimal import Decimal
+from sys import intern
 from typing import Dict, Iterator, List, NamedTuple, Optional, Sequence, Tuple
 
 from balisekit.etcs.geometry import NOMINAL
@@ -12,6 +13,7 @@ from balisekit.rules.location import NO_DIRECTION
 from balisekit.rules.meaning.along import Lane
 from balisekit.rules.passages import Passage
 from balisekit.rules.telegrams import LEVELS, Packet
+from balisekit.tables.decimals import whole
 
 BOTH_DIRECTIONS, NOW, NEAR = 2, 32_767, 5000
 """Q_DIR, D_LEVELTR for at once, and in decimetres how near two announcements of one transition are."""
@@ -42,9 +44,10 @@ class Order(NamedTuple):
 
     def values(self, before: str = "") -> Dict[str, Decimal]:
         """Its place and levels, by names that begin so."""
-        numbers = {f"m_leveltr_{place}": Decimal(level) for place, (level, _) in enumerate(self.levels, 1)}
-        numbers.update({f"nid_ntc_{place}": Decimal(ntc) for place, (_, ntc) in enumerate(self.levels, 1) if ntc >= 0})
-        return {f"{before}{name}": each for name, each in {"place_m": Decimal(self.place) / 10, **numbers}.items()}
+        numbers = {f"m_leveltr_{place}": whole(level) for place, (level, _) in enumerate(self.levels, 1)}
+        numbers.update({f"nid_ntc_{place}": whole(ntc) for place, (_, ntc) in enumerate(self.levels, 1) if ntc >= 0})
+        own = {"place_m": Decimal(self.place) / 10, **numbers}
+        return {intern(f"{before}{name}"): each for name, each in own.items()}
 
     @property
     def words(self) -> str:

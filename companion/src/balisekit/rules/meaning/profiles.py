@@ -79,25 +79,34 @@ def _stretches(packet: Packet, origin: int, up: int, down: int) -> Sequence[Step
 class Profiles:
     """All profiles of one kind that a group gives to trains of one way."""
 
-    __slots__ = ("data", "track", "way", "begin", "longest", "reach", "first", "_sayings", "_differ")
+    __slots__ = ("data", "track", "way", "begin", "reach", "first", "_longest", "_sayings", "_differ")
 
     def __init__(self, data: GroupData, way: int, sayings: Sequence[Tuple[Passage, Packet]], differ: bool) -> None:
         """`sayings` has each profile, and `differ` says whether its aspects have different packets 5."""
         self.data, self.track, self.way = data, data.group.track, way
         self.begin = way * (data.place or 0)
         """The place of the group."""
-        passage, packet = sayings[0] if len(sayings) == 1 else max(sayings, key=_length)
-        self.longest = Aspect(passage, packet, self.begin)
-        """The profile that reaches farthest."""
-        self.reach = self.longest.stretches[-1][1] if self.longest.stretches else self.begin
-        self.first = self.longest.stretches[0][0] if self.longest.stretches else self.begin
+        self._longest = sayings[0] if len(sayings) == 1 else max(sayings, key=_length)
+        stretches = self.longest.stretches
+        self.reach = stretches[-1][1] if stretches else self.begin
+        self.first = stretches[0][0] if stretches else self.begin
         """From where on that profile holds."""
         self._sayings, self._differ = sayings, differ
+
+    @property
+    def is_of_message(self) -> bool:
+        """Whether a radio message gives them."""
+        return self.longest.passage.message is not None
 
     @property
     def unit(self) -> int:
         """The least unit of their distances, in decimetres."""
         return min([packet.unit for _, packet in self._sayings])
+
+    @property
+    def longest(self) -> Aspect:
+        """The profile that reaches farthest. (It is made when it is asked for: those of a large table take memory.)"""
+        return Aspect(*self._longest, self.begin)
 
     @property
     def aspects(self) -> Sequence[Aspect]:
@@ -114,7 +123,7 @@ class Profiles:
 
     def names(self, ahead: Profiles, decoded: Decoded) -> bool:
         """Whether the longest aspect is one of those that are compared with the group."""
-        return not self._differ or any(each is self.longest for each in self.naming(ahead, decoded))
+        return not self._differ or any(each.packet is self._longest[1] for each in self.naming(ahead, decoded))
 
 
 def _length(saying: Tuple[Passage, Packet]) -> int:

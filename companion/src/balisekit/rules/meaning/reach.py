@@ -41,10 +41,9 @@ class Reach:
         index = bisect_left(self._begins, place + 1)
         return max(self._farthest[index - 1], place) if index else place
 
-    def group_between(self, low: int, high: int) -> bool:
-        """Whether a group is beyond the first place, and not beyond the second one."""
-        index = bisect_left(self.groups, low + 1)
-        return index < len(self.groups) and self.groups[index] <= high
+    def groups_between(self, low: int, high: int) -> Sequence[int]:
+        """The places of the groups beyond the first place, and not beyond the second one."""
+        return self.groups[bisect_left(self.groups, low + 1) : bisect_left(self.groups, high + 1)]
 
 
 def lanes_of_links(decoded: Decoded) -> Dict[Lane, Reach]:

@@ -18,6 +18,8 @@ AUTHORITY = 12
 NUMBERS = frozenset({LINKING, AUTHORITY, GRADIENTS, SPEEDS})
 SIBLINGS, LEAST = 3, 3
 """The fewest aspects of a group that are compared, and the fewest cases that show an order."""
+BESIDE = 2000
+"""In decimetres: how far signals of neighbouring tracks are apart along them, such as staggered exit signals."""
 Said = Dict[str, Tuple[FrozenSet[int], ...]]
 """By aspect: which of NUMBERS it has in each of the DIRECTIONS."""
 Linked = Tuple[Passage, Sequence[Packet]]
@@ -155,12 +157,19 @@ class Pair(NamedTuple):
         """What the aspects are called."""
         return self.first.passage.aspect, self.second.passage.aspect
 
+    @property
+    def is_at_limit(self) -> bool:
+        """Whether both end at one place, which the second one lets trains pass by a V_LOA above 0: a level border."""
+        return self.longer == 0 and bool(self.second.packet.form["end_speed"])
+
 
 class Order(NamedTuple):
-    """In how many cases one aspect ends before another one, and of how many."""
+    """In how many cases one aspect ends before another one, and of how many in which they end at two places."""
 
     most: int
     of_how_many: int
+    equal: int
+    """In how many other cases both end at one place."""
     fact: str
     """Which of the two ends first in each case."""
 
@@ -206,13 +215,25 @@ def pairs_of(options: Options, cases: Sequence[Sequence[Case]]) -> Mapping[Tuple
     return pairs
 
 
+def _all_but_one(most: int, apart: Sequence[Pair]) -> bool:
+    """Whether few cases show an order: all but one, if no two ends could be at signals beside each other."""
+    return most >= LEAST and len(apart) == most + 1 and all(abs(pair.longer) > BESIDE for pair in apart)
+
+
 def against_the_order(pairs: Mapping[Tuple[str, str], Sequence[Pair]], counts: Counts) -> Iterator[Pair]:
-    """The pairs that are not in the order of their names, the aspect first that mostly ends first. Counts the cases."""
+    """The pairs that are not in the order of their names, the aspect first that mostly ends first. Counts the cases.
+
+    Equal ends show no order: they are remarked only if they are rare too.
+    """
     for some in pairs.values():
-        before, after = (sum(pair.longer * sign > 0 for pair in some) for sign in (1, -1))
+        apart = [pair for pair in some if pair.longer]
+        before, after = (sum(pair.longer * sign > 0 for pair in apart) for sign in (1, -1))
         most = max(before, after)
-        if is_usual(most, len(some)):
-            ordered = some if before > after else [Pair(pair.second, pair.first, -pair.longer) for pair in some]
-            fact = counted(f"{sender(pair.first.passage)} {pair.longer > 0}" for pair in ordered)
-            counts[ordered[0].names] = Order(most, len(some), fact)
-            yield from (pair for pair in ordered if pair.longer <= 0)
+        if not (is_usual(most, len(apart)) or _all_but_one(most, apart)):
+            continue
+        ordered = some if before > after else [Pair(pair.second, pair.first, -pair.longer) for pair in some]
+        at_signals = sum(not pair.is_at_limit for pair in ordered)
+        fact = counted(f"{sender(pair.first.passage)} {pair.longer > 0}" for pair in ordered)
+        counts[ordered[0].names] = Order(most, len(apart), len(some) - len(apart), fact)
+        least = 0 if is_usual(most, at_signals) else -1
+        yield from (pair for pair in ordered if pair.longer <= least and not pair.is_at_limit)

@@ -8,7 +8,7 @@ from balisekit.rules.decoded import Decoded
 from balisekit.rules.location import BaliseGroup
 from balisekit.rules.passages import Passage
 from balisekit.rules.rule import Remark
-from balisekit.rules.telegrams import Packet
+from balisekit.rules.telegrams import SPEEDS, Packet
 from balisekit.tables.model import Row
 from balisekit.tables.names import describe_message, quoted, rows_words
 
@@ -49,6 +49,13 @@ def between(decoded: Decoded, passage: Passage, begin: int, end: int) -> str:
 def more_stretches(count: int) -> str:
     """That profiles differ on this many stretches beside the one that is named."""
     return f"; they differ on {count} other stretch{'es' if count > 1 else ''} too" if count else ""
+
+
+def profile_value(packet: Packet, value: int) -> str:
+    """A value of a packet 27 or 21 with what it is."""
+    if packet.number == SPEEDS:
+        return f"V_STATIC {value * 5} km/h [{value}]"
+    return f"a gradient of {value:+} ‰" if value else "0 ‰"
 
 
 def merged(remarks: Iterable[Remark]) -> Sequence[Remark]:

@@ -1,8 +1,9 @@
 """names alike: two names look alike and differ.
 
 What it says. Two groups, aspects or tracks of the table have names that differ by characters without ink, by letters of
-another script or by the way an accent is written. Two tracks have names that differ only in case, in blanks or in how
-a number is written, such as 1 and 01. Groups whose names differ in case or blanks only have a note of their own.
+another script or by the way an accent is written. Two tracks have names that differ only in case, in blanks, in
+punctuation or in how a number is written, such as 1 and 01, or Track 1 and Track-1. Punctuation between two digits or
+at an end of the name is not meant. Groups whose names differ in case or blanks only have a note of their own.
 
 Why it matters. To be looked at: what reads as one group or aspect is checked as two.
 
@@ -17,6 +18,7 @@ import unicodedata
 from collections import Counter
 from typing import Dict, Iterable, Iterator, Tuple
 
+from balisekit.expressions import expression
 from balisekit.rules.line import Line
 from balisekit.rules.location import Location
 from balisekit.rules.rule import Options, Remark, Result, Rule
@@ -28,8 +30,10 @@ LOOK_ALIKE = str.maketrans(
     "АВЕЅЗІЈКМНОРСТУХаеѕіјорсухԁԛԝΑΒΕΖΗΙΚΜΝΟΡΤΥΧοѵ‐‑‒–—−", "ABES3IJKMHOPCTYXaesijopcyxdqwABEZHIKMNOPTYXov------"
 )
 """Letters of Cyrillic and Greek, and dashes, each as the one of Latin that it looks like."""
-NUMBER = re.compile(r"(?<![0-9.,])0*([0-9]+)(?:[.,]0+)?(?![0-9]|[.,][0-9])")
+NUMBER = expression(r"(?<![0-9.,])0*([0-9]+)(?:[.,]0+)?(?![0-9]|[.,][0-9])")
 """A number, which spreadsheets and people write with more or fewer zeros: 1, 01, 1.0."""
+SIGNS = expression(r"(?<=[^\W\d_])[\s_.,:/-]+(?=[^\W_])|(?<=\d)[\s_.,:/-]+(?=[^\W\d_])")
+"""Blanks and punctuation within a name: beside a letter, and not between two digits, where they may tell two names."""
 
 
 def find(line: Line, options: Options) -> Result:
@@ -50,9 +54,9 @@ def _compare(what: str, named: Dict[str, Row]) -> Iterator[Remark]:
     first: Dict[str, str] = {}
     for name, row in reversed(list(named.items())):
         seen = _look(name)
-        other = first.setdefault(NUMBER.sub(r"\1", seen) if what == TRACKS else seen, name)
+        other = first.setdefault(_plain(seen) if what == TRACKS else seen, name)
         if _look(other) != seen:
-            sentence = f"{what} {quoted(other)} and {quoted(name)} differ only in how a number is written"
+            sentence = f"{what} {quoted(other)} and {quoted(name)} differ only in {_way(_look(other), seen)}"
             yield Remark(RULE.name, Location(row=row), sentence)
         elif _folded(other) != _folded(name):
             sentence = f"{what} {quoted(other)} and {quoted(name)} look alike, and differ by {_differing(other, name)}"
@@ -60,6 +64,19 @@ def _compare(what: str, named: Dict[str, Row]) -> Iterator[Remark]:
         elif what == TRACKS and other != name:
             sentence = f"{what} {quoted(other)} and {quoted(name)} differ only in case or blanks"
             yield Remark(RULE.name, Location(row=row), sentence)
+
+
+def _plain(seen: str) -> str:
+    """What is seen of the name of a track, without punctuation and zeros."""
+    return NUMBER.sub(r"\1", SIGNS.sub("", seen))
+
+
+def _way(one: str, other: str) -> str:
+    """In what two names of tracks differ that are the same without punctuation and zeros."""
+    if SIGNS.sub("", one) == SIGNS.sub("", other):
+        return "punctuation or blanks"
+    number = "how a number is written"
+    return number if NUMBER.sub(r"\1", one) == NUMBER.sub(r"\1", other) else f"punctuation, blanks or {number}"
 
 
 def _folded(name: str) -> str:

@@ -5,10 +5,28 @@ wrong.
 """
 from __future__ import annotations
 
+from typing import Iterator
+
 from balisekit.rules.discovery import rules_of
-from balisekit.rules.passed_over import Rules
+from balisekit.rules.line import Line
+from balisekit.rules.passed_over import PassedOver, Rules, behind_infill, notes_of
 
 RULES = rules_of(__name__, __path__)
-OF_PLACES = Rules("X1 to X3 and X5", "X1 to X3 and X5")
-"""What needs the kilometre of a group, and its direction. X4 needs them for rows with a way."""
-__all__ = ["OF_PLACES", "RULES"]
+OF_PLACES = Rules("X1 to X3, X5 and X6", "X1 to X3, X5 and X6")
+"""What needs the kilometre of a group, and its direction. X4 needs them for rows with a way, and X7 needs none."""
+IN_PLAN = frozenset({12, 15, 21, 27, 41, 42, 46, 131})
+"""The packets that are compared with a plan."""
+
+
+def passed_over(line: Line) -> Iterator[PassedOver]:
+    """The groups and messages that some of these rules do not look at."""
+    yield from OF_PLACES.find(line)
+    yield from behind_infill(line, lambda number: number in IN_PLAN, "rules X")
+
+
+def notes_on(line: Line) -> Iterator[str]:
+    """A note for each reason."""
+    return notes_of(passed_over(line))
+
+
+__all__ = ["OF_PLACES", "RULES", "notes_on", "passed_over"]

@@ -8,37 +8,25 @@ from __future__ import annotations
 from bisect import bisect_left, insort
 from collections import Counter
 from decimal import Decimal
-from typing import Dict, Iterator, List, NamedTuple, Optional, Sequence, Set, Tuple
+from typing import Dict, Iterator, List, NamedTuple, Sequence, Tuple
 
 from balisekit.rules.line import Line
+from balisekit.rules.passages import Passage
 from balisekit.rules.rule import Options
 from balisekit.rules.telegrams import AUTHORITIES, allowance
 from balisekit.rules.track_plan.borders import NOT_DECODED, NUMBERS, Border, border_of
+from balisekit.rules.track_plan.implied_profiles import Lane, on_track_up_to, profiles
 from balisekit.rules.track_plan.placed import NO_PLACE, PlacedPlan, Saying
-from balisekit.rules.track_plan.stretches import KINDS, span
+from balisekit.rules.track_plan.stretches import KINDS, compare
 from balisekit.rules.track_plan.x3_ends import gives_way
 from balisekit.rules.track_plan.x4_aspects import AUTHORITY, terms_of
-from balisekit.tables.plan import BORDERS, PlanRow, aspect_name
-from balisekit.tables.plan_values import Value
+from balisekit.tables.plan import BORDERS, Plan, PlanRow, aspect_name
+from balisekit.tables.plan_values import GroupTerms, Value
 
 NEAR = 500
 """In decimetres: a signal has the name of a group that is as near."""
 RADIO = ("2", "3")
 """The levels with an RBC."""
-Lane = Tuple[str, int]
-"""A track, and a way."""
-
-
-class Said(NamedTuple):
-    """A value from one place to another one, by one group."""
-
-    low: int
-    high: int
-    value: int
-    group: int
-    """The group's place in the table."""
-    rear: int
-    """How far the group is along its way: the greatest is the nearest one in rear."""
 
 
 class At(NamedTuple):
@@ -61,66 +49,54 @@ def implied(line: Line, options: Options) -> Made:
     placed, skipped = PlacedPlan(line, options), Counter[str]()
     jumps = [PlanRow(0, "jump", jump.before, jump.after, jump.track) for jump in options.jumps]
     stretches = [row for number in KINDS for row in _stretches(placed, number, skipped)]
+    points = list(_points(line, options, [*jumps, *stretches]))
+    placed = PlacedPlan(line, options._replace(plan=Plan(rows=tuple(points))))
     borders = list(_borders(placed, options, skipped))
-    rows = [*jumps, *stretches, *_signals(placed, options, skipped), *_aspects(placed), *borders]
+    rows = [
+        *jumps,
+        *stretches,
+        *_signals(placed, options, skipped),
+        *_aspects(placed),
+        *borders,
+        *points,
+        *_groups(placed),
+    ]
     numbered = [row._replace(number=number) for number, row in enumerate(rows, 2)]
     return Made(numbered, [f"{count} packets are not in the plan: {why}" for why, count in skipped.items()])
+
+
+def _stretches(placed: PlacedPlan, number: int, skipped: Counter[str]) -> Iterator[PlanRow]:
+    """The speeds or gradients of each way of each track."""
+    for lane, held in profiles(placed, number, skipped).items():
+        for (low, high, value), after in zip(held, [*held[1:], None]):
+            row = _row(placed, KINDS[number], lane, low, value)
+            goes_on = after is not None and after[0] == high
+            yield row if goes_on else row._replace(km_to=placed.kilometre(lane[0], high))
+
+
+def _points(line: Line, options: Options, rows: Sequence[PlanRow]) -> Iterator[PlanRow]:
+    """Where trains leave a track: they are told other things from there on, and their packets 5 lead to another track.
+
+    Such a train is on its track up to the last group that a packet 5 names of it, so the point is beyond this group.
+    """
+    made = Plan(rows=tuple(row._replace(number=number) for number, row in enumerate(rows, 2)))
+    placed = PlacedPlan(line, options._replace(plan=made))
+    first: Dict[Passage, int] = {}
+    for number in KINDS:
+        differences = compare(placed, number, options).differences
+        for passage, begin in ((each.saying.passage, each.begin) for some in differences for each in some):
+            way, sure = passage.way or 0, on_track_up_to(placed, passage)
+            if sure is not None and way * begin >= way * sure:
+                beyond = way * max(way * begin, way * sure + 1)
+                first[passage] = way * min(way * beyond, way * first.get(passage, beyond))
+    lanes = {(passage.track, passage.way or 0, place) for passage, place in first.items()}
+    yield from (_row(placed, "point", (track, way), place) for track, way, place in sorted(lanes))
 
 
 def _row(placed: PlacedPlan, kind: str, lane: Lane, place: int, value: Value = None, name: str = "") -> PlanRow:
     """A row at a place of a track."""
     track, way = lane
     return PlanRow(0, kind, placed.kilometre(track, place), None, track, way, value, name)
-
-
-def _stretches(placed: PlacedPlan, number: int, skipped: Dict[str, int]) -> Iterator[PlanRow]:
-    """The speeds or gradients of each way of each track."""
-    lanes: Dict[Lane, List[Said]] = {}
-    for saying in placed.sayings(number):
-        passage, group = saying.passage, saying.passage.group
-        found = [(span(saying, element), element.value) for element in saying.packet.stretches]
-        for why in dict.fromkeys(why for (_, why), _ in found if why):
-            skipped[why] += 1
-        for (ends, _), value in found:
-            if ends and group and passage.way:
-                said = Said(min(ends), max(ends), value, group.group.number, passage.way * (group.place or 0))
-                lanes.setdefault((passage.track, passage.way), []).append(said)
-    for lane, some in lanes.items():
-        merged = list(_merged(some))
-        for (low, high, value), after in zip(merged, [*merged[1:], None]):
-            row = _row(placed, KINDS[number], lane, low, value)
-            goes_on = after is not None and after[0] == high
-            yield row if goes_on else row._replace(km_to=placed.kilometre(lane[0], high))
-
-
-def _merged(some: Sequence[Said]) -> Iterator[Tuple[int, int, int]]:
-    """What is said of each stretch of a track: from one place to another one, and the value."""
-    waiting = sorted(some, key=lambda said: said.low, reverse=True)
-    active: List[Said] = []
-    last: Optional[Tuple[int, int, int]] = None
-    places = sorted({place for said in some for place in (said.low, said.high)})
-    for low, high in zip(places, places[1:]):
-        while waiting and waiting[-1].low <= low:
-            active.append(waiting.pop())
-        active = [said for said in active if said.high > low]
-        if not active:
-            continue
-        value = _most_said(active)
-        if last and last[1:] == (low, value):
-            last = last[0], high, value
-        else:
-            yield from [last] if last else []
-            last = low, high, value
-    yield from [last] if last else []
-
-
-def _most_said(active: Sequence[Said]) -> int:
-    groups: Dict[int, Set[int]] = {}
-    rear: Dict[int, int] = {}
-    for said in active:
-        groups.setdefault(said.value, set()).add(said.group)
-        rear[said.value] = max(rear.get(said.value, said.rear), said.rear)
-    return max(groups, key=lambda value: (len(groups[value]), rear[value]))
 
 
 def _signals(placed: PlacedPlan, options: Options, skipped: Dict[str, int]) -> Iterator[PlanRow]:
@@ -145,7 +121,7 @@ def _by_lane(
         passage, place = saying.passage, saying.passage.place(distance)
         if place is None or passage.way is None:
             skipped[NO_PLACE] += 1
-        else:
+        elif not placed.is_behind_point(passage, place):
             tolerance = placed.decoded.tolerance(options.tolerance, allowed)
             lanes.setdefault((passage.track, passage.way), []).append(At(place, tolerance, value))
     return lanes
@@ -179,6 +155,17 @@ def _aspects(placed: PlacedPlan) -> Iterator[PlanRow]:
             if (name, way) not in known:
                 known.add((name, way))
                 yield PlanRow(0, "aspect", group.km or Decimal(), None, group.track, way, terms_of(own[0]), name)
+
+
+def _groups(placed: PlacedPlan) -> Iterator[PlanRow]:
+    """The groups with a kilometre, as the header of the first telegram has them."""
+    for data in placed.decoded.groups:
+        own, header = data.group, next((telegram.header for telegram in data.telegrams.values()), None)
+        if own.km is not None and header:
+            kilometres = [row.km for row in own.group.aspects[0].rows if row.km is not None]
+            at = tuple(kilometres) if len(kilometres) == header.n_total + 1 > 1 else ()
+            terms = GroupTerms((header.nid_c, header.nid_bg), header.n_total + 1, bool(header.q_link), at)
+            yield PlanRow(0, "group", own.km, None, own.track, own.rising or 0, terms, own.group.name)
 
 
 def _borders(placed: PlacedPlan, options: Options, skipped: Dict[str, int]) -> Iterator[PlanRow]:

@@ -20,10 +20,12 @@ from balisekit.tables.names import clean, kilometre, rows_words
 from balisekit.tables.plan import Lane, Plan, PlanRow
 
 __all__ = ["BEHIND_POINT", "PlacedPlan", "Saying", "Spot", "cells_of", "nearest", "plan_words", "remark"]
-COMPARED = ("speed", "gradient", "signal", "aspect", "level", "rbc")
+COMPARED = ("speed", "gradient", "signal", "aspect", "level", "rbc", "group")
 """The kinds of rows that rules compare."""
 SAYS_NOTHING = "the plan says nothing"
 NO_PLACE = "no kilometre or direction"
+BEYOND = "beyond the table"
+"""Why rows of the plan are not compared that are beyond the first or the last group of their track."""
 Values = Mapping[str, Decimal]
 Counts = Dict[str, int]
 """How many things were compared, by no reason, and how many were not, by the reason."""
@@ -64,6 +66,7 @@ class PlacedPlan:
         self._begins: Dict[Lane, Sequence[int]] = {}
         self._limits: Dict[Passage, Optional[int]] = {}
         self._spots: Dict[Lane, Sequence[Spot]] = {}
+        self._lost: Dict[Lane, Sequence[int]] = {}
 
     def parts(self, kind: str, track: str, way: int) -> Sequence[PlanStretch]:
         """The speeds or gradients for trains of one way of a track, in the order of the kilometres."""
@@ -109,10 +112,12 @@ class PlacedPlan:
 
     def is_lost(self, kind: str, passage: Passage, place: int, tolerance: int) -> bool:
         """Whether a row without one place may be at this place: a jump repeats its kilometre."""
-        chainage = self._chainages.get(clean(passage.track), Chainage())
-        rows = self.plan.places(kind, passage.track, passage.way or 0)
-        lost = [row for row in rows if chainage.place(row.km) is None]
-        return any(abs(each - place) <= tolerance for row in lost for each in chainage.places(row.km))
+        lane = kind, passage.track, passage.way or 0
+        if lane not in self._lost:
+            chainage = self._chainages.get(clean(passage.track), Chainage())
+            lost = [row for row in self.plan.places(*lane) if chainage.place(row.km) is None]
+            self._lost[lane] = [each for row in lost for each in chainage.places(row.km)]
+        return any(abs(each - place) <= tolerance for each in self._lost[lane])
 
     def place(self, track: str, km: Optional[Decimal]) -> Optional[int]:
         """The place of a kilometre, if it has one."""
@@ -160,7 +165,7 @@ class PlacedPlan:
         has_own = any(self.plan.of_kind(kind) for kind in kinds)
         has_others = any(self.plan.of_kind(kind) for kind in COMPARED)
         looked_at = counts.pop("", 0)
-        if not self.decoded.along and not counts and kinds != ["aspect"]:
+        if not self.decoded.along and not counts and kinds not in (["aspect"], ["group"]):
             counts[NO_PLACE] = sum(len(self.plan.of_kind(kind)) for kind in kinds)
         return Result(found, looked_at, counts, [*self._notes(kinds), *notes], has_others and not has_own)
 
@@ -168,9 +173,6 @@ class PlacedPlan:
         """The rows of these kinds that no rule can compare."""
         tracks = {clean(data.group.track) for data in self.decoded.groups}
         rows = [row for kind in kinds for row in self.plan.of_kind(kind) if kind != "aspect"]
-        strange = [row.number for row in rows if row.track not in tracks]
-        if strange:
-            yield f"{self.plan.path}: {rows_words(strange)}: the table has no such track"
         ends = [(row, km) for row in rows if row.track in tracks for km in (row.km, row.km_to) if km is not None]
         lost = [row.number for row, km in ends if self.place(row.track, km) is None]
         if lost:

@@ -3,7 +3,7 @@ from __future__ import annotations
 
 from collections import Counter
 from dataclasses import dataclass, field
-from typing import Dict, List, NamedTuple, Optional, Tuple
+from typing import Dict, List, NamedTuple, Optional, Sequence, Tuple
 
 from balisekit.rules.facts import sender
 from balisekit.rules.track_plan.placed import (
@@ -19,6 +19,7 @@ from balisekit.rules.track_plan.placed import (
 from balisekit.rules.rule import Options
 from balisekit.rules.telegrams import GRADIENTS, SPEEDS, Stretch, allowance
 from balisekit.rules.touching import longer
+from balisekit.tables.names import rows_words
 
 KINDS = {SPEEDS: "speed", GRADIENTS: "gradient"}
 """The kinds of rows of the plan, by NID_PACKET of the profiles that are compared with them."""
@@ -38,11 +39,25 @@ class Difference(NamedTuple):
     part: PlanStretch
     allowed: int
     """By how much its places may differ."""
+    whole: Optional[Span] = None
+    """From where to where it differs together with those that touch it, if there are any."""
+    rows: Tuple[int, ...] = ()
+    """The rows of the plan that these differ from."""
 
     def fact(self, placed: PlacedPlan) -> str:
         """The stretch with both values, and who says one of them."""
         ends = [placed.km(self.saying.passage, place) for place in (self.begin, self.end)]
         return f"{sender(*self.saying)} {ends} {self.said} {cells_of(self.part.row)}"
+
+
+def whole_words(placed: PlacedPlan, difference: Difference) -> str:
+    """From where to where a short stretch differs with those that touch it, and from which rows of the plan."""
+    if difference.whole is None or _length(difference) > difference.allowed:
+        return ""
+    begin, end = (placed.km(difference.saying.passage, place) for place in difference.whole)
+    return (
+        f"; with the stretches that touch it, it differs from {begin} to {end}, by {rows_words(difference.rows)} of it"
+    )
 
 
 @dataclass
@@ -65,9 +80,16 @@ def compare(placed: PlacedPlan, number: int, options: Options) -> Compared:
             for each in some:
                 named = each if _length(each) > each.allowed else longest
                 key = named.part.row.number, named.said, saying.passage.way or 0
-                known.setdefault(key, []).append(each)
+                known.setdefault(key, []).append(_with_touching(each, some))
     compared.differences = [sorted(found, key=lambda each: -_length(each)) for found in known.values()]
     return compared
+
+
+def _with_touching(one: Difference, some: Sequence[Difference]) -> Difference:
+    """A stretch with all that touch each other."""
+    if len(some) == 1:
+        return one
+    return one._replace(whole=(some[0].begin, some[-1].end), rows=tuple(each.part.row.number for each in some))
 
 
 def _differing(placed: PlacedPlan, saying: Saying, options: Options, counts: Counts) -> List[Difference]:
@@ -76,7 +98,7 @@ def _differing(placed: PlacedPlan, saying: Saying, options: Options, counts: Cou
     kind = KINDS[saying.packet.number]
     for place, element in enumerate(saying.packet.stretches):
         tolerance = placed.decoded.tolerance(options.tolerance_of_places, allowance(saying.packet, place + 2))
-        ends, why = _known(placed, saying, span(saying, element))
+        ends, why = known(placed, saying, span(saying, element))
         if ends is not None:
             parts = list(placed.parts_within(kind, saying.passage, min(ends), max(ends)))
             for part, low, high in parts if ends[0] < ends[1] else reversed(parts):
@@ -114,7 +136,7 @@ def span(saying: Saying, element: Stretch) -> Tuple[Optional[Span], str]:
     return ((begin, end), "") if begin is not None and end is not None and passage.way else (None, NO_PLACE)
 
 
-def _known(placed: PlacedPlan, saying: Saying, found: Tuple[Optional[Span], str]) -> Tuple[Optional[Span], str]:
+def known(placed: PlacedPlan, saying: Saying, found: Tuple[Optional[Span], str]) -> Tuple[Optional[Span], str]:
     """The same up to the point at which the train may leave the track."""
     ends, limit, way = found[0], placed.known_to(saying.passage), saying.passage.way or 0
     if ends is None or limit is None or way * (limit - ends[1]) >= 0:

@@ -1,10 +1,11 @@
 """X2: gradient other than in the plan.
 
 What it says. A gradient profile has another gradient than the plan, on a stretch longer than `--tolerance` (default 1
-m) and rounding. Stretches that touch count as one. The rule rests on SUBSET-026, 7.4.2 and 7.5.1.
+m) and rounding. Stretches that touch count as one. If they are long enough only together, the remark also names the
+ends of the whole stretch, and its rows of the plan. The rule rests on SUBSET-026, 7.4.2 and 7.5.1.
 - Uphill is positive. In the packet it is uphill for the train that gets the packet. In the plan it is uphill for a
   train of the row's way, or for a rising train if the row has no way.
-- What follows a packet 136 is not compared.
+- What follows a packet 136 is not compared, nor is a stretch for which the plan has no gradient.
 - {beyond a point}
 
 Why it matters. At worst the train gets wrong information: it brakes too late if the gradient is less downhill than the
@@ -15,8 +16,9 @@ Example. Before (`examples/meaning/level-border.csv` with `--plan` `examples/mea
 
 When it is a false alarm. The rule assumes that plan and profile have the gradient of each place. One of them might have
 a mean of several gradients, or a safe one. A safe gradient is the most downhill one, one that was rounded down, or one
-of a stop aspect or overlap. Write safe gradients into the plan, a row for each way. {leaving} {points} {kilometres}
-{missing} {one way}
+of a stop aspect or overlap. Write safe gradients into the plan, a row for each way. It assumes that the last gradient
+of the plan holds for the rest of the track. If the plan ends before the profiles, write its end into `km_to` of that
+row. {leaving} {points} {kilometres} {missing} {one way}
 
 Usual cause. The sign of the other direction was taken. Or the gradient of the neighbouring stretch was copied. Or
 Q_SCALE is not the scale of the distances.
@@ -32,7 +34,7 @@ from typing import Sequence
 
 from balisekit.rules.line import Line
 from balisekit.rules.track_plan.placed import PlacedPlan, plan_words, remark
-from balisekit.rules.track_plan.stretches import Difference, compare
+from balisekit.rules.track_plan.stretches import Difference, compare, whole_words
 from balisekit.rules.rule import Options, Remark, Result, Rule, Urgency
 from balisekit.rules.telegrams import GRADIENTS
 
@@ -46,13 +48,13 @@ def find(line: Line, options: Options) -> Result:
 
 
 def _remark(placed: PlacedPlan, differences: Sequence[Difference]) -> Remark:
-    saying, begin, end, said, part, _ = differences[0]
+    saying, begin, end, said, part = differences[0][:5]
     passage = saying.passage
     sign = ": the sign is the other one" if said == -part.value else ""
     sentence = (
         f"the gradient by G_A and Q_GDIR is {_words(said)} from {placed.km(passage, begin)} to "
         f"{placed.km(passage, end)}, and {_words(part.value)} by {plan_words(part.row, with_km=False)}{sign}"
-    )
+    ) + whole_words(placed, differences[0])
     values = {
         "g_a": Decimal(said),
         "plan_per_mille": Decimal(part.value),

@@ -70,7 +70,7 @@ def find(line: Line, options: Options) -> Result:
     found: Dict[Tuple[int, int], List[End]] = {}
     for saying in placed.sayings(*AUTHORITIES):
         if gives_way(saying.packet):
-            end, why = _end(placed, saying)
+            end, why = end_of(placed, saying)
             tolerance = line.decoded.tolerance(options.tolerance, allowance(saying.packet, saying.packet.lengths))
             if end and placed.is_lost("signal", saying.passage, end.place, tolerance):
                 end, why = None, NO_PLACE
@@ -85,7 +85,7 @@ def gives_way(packet: Packet) -> bool:
     return bool(packet.form.get("v_main", 1) and packet.end)
 
 
-def _end(placed: PlacedPlan, saying: Saying) -> Tuple[Optional[End], str]:
+def end_of(placed: PlacedPlan, saying: Saying) -> Tuple[Optional[End], str]:
     """Where an authority ends, and the nearest signal; or why they are not compared."""
     passage = saying.passage
     place = passage.place(saying.packet.authority.end)

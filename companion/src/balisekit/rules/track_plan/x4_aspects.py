@@ -1,28 +1,30 @@
 """X4: aspect other than in the route table of the plan.
 
-What it says. The packet 12 of an aspect differs from the plan's row for this aspect in V_MAIN, end, overlap or release
-speed. A row of the plan is also reported if its aspect has no packet 12 for trains that run the way of the row. The
-rule rests on SUBSET-026, 7.4.2 and 7.5.1.
+What it says. The packet 12 of an aspect differs from the plan's row for this aspect, such as in V_MAIN, end, overlap or
+release speed. The rule also reports a row of the plan whose aspect has no packet 12 for trains that run the way of the
+row. It rests on SUBSET-026, 7.4.2 and 7.5.1.
+- The rule compares only what the row of the plan states.
 - The end of authority is compared as a distance from the group.
 - The release speed belongs to the overlap, or to the danger point if there is no overlap.
+- If the row states a time or a place of a timer that the packet does not have, the remark gives `none` for the packet.
 - Lengths may differ by the rounding of Q_SCALE and by `--tolerance` (default 0).
-- What follows a packet 136 is not compared.
+- A missing packet 12 is reported only if the table has the aspect and no telegram of the aspect is refused.
+- A packet 12 that follows a packet 136 is not compared, and does not count as the packet 12 of the aspect.
 
-Why it matters. At worst the train gets wrong information: it runs farther or faster than the route that is set for it
-allows.
+Why it matters. At worst the train gets wrong information: it runs farther or faster than its route allows.
 
-Example. Before (`examples/meaning/level-border.csv` with `--plan` `examples/meaning/plan.csv`): at "yellow" Signal 9
+Example. Before (`examples/meaning/level-border.csv` with `--plan` `examples/meaning/plan.csv`): "yellow" of Signal 9
 (km 22.003) has V_MAIN 140 km/h, and the plan has 100 km/h. After: both have the speed of the route.
 
-When it is a false alarm. The rule assumes that the plan has the values that the packet must have. If it has the values
-of the route, the packet can differ on purpose. It might have a lower speed or one that does not restrict, or be for
-limited supervision. The rule assumes that each aspect of the plan has a packet 12. An aspect might have none on
+When it is a false alarm. The rule assumes that the plan has the values that the packet must have. If the plan has the
+values of the route, the packet can differ on purpose. It might have a lower speed or a speed that does not restrict, or
+be for limited supervision. The rule assumes that each aspect of the plan has a packet 12. An aspect might have none on
 purpose, for example because it stops trains by other packets. It assumes that a row of the plan and the packet are for
 the same way. This is wrong if a group has packets for both directions, and its rows state no `way`. Finally, it assumes
 that lengths are rounded no more coarsely than to the unit of Q_SCALE.
 
-Usual cause. The telegrams of two aspects were exchanged. Or a value was copied from another signal. Or the route table
-has changed since the telegrams were made.
+Usual cause. The telegrams of two aspects were exchanged, or a value was copied from another signal. The route table
+might also have changed since the telegrams were made.
 
 How to correct it. Correct the packet 12, or the row of the plan.
 
@@ -40,13 +42,14 @@ from balisekit.rules.passages import GroupData, Passage
 from balisekit.rules.track_plan.placed import NO_PLACE, SAYS_NOTHING, PlacedPlan, Saying, cells_of, plan_words, remark
 from balisekit.rules.rule import Options, Remark, Result, Rule, Urgency
 from balisekit.rules.telegrams import Packet, allowance
-from balisekit.tables.names import rows_words
 from balisekit.tables.plan import WAY_WORDS, PlanRow, aspect_name
-from balisekit.tables.plan_values import LENGTHS, STEP, Terms, term_words
+from balisekit.tables.plan_values import LENGTHS, STEP, TIMES, Terms, term_words
 
 AUTHORITY = 12
 FIELDS = {"v": "V_MAIN", "end": "the end of authority", "overlap": "the overlap", "release": "the release speed"}
-UNITS = {"v": "kmh", "end": "m", "overlap": "m", "release": "kmh"}
+FIELDS.update(danger="the danger point", loa="V_LOA", loa_time="T_LOA", end_time="T_ENDTIMER", overlap_time="T_OL")
+FIELDS.update(end_start="D_ENDTIMERSTARTLOC", overlap_start="D_STARTOL")
+NO_TIME_OUT = 1023
 
 
 class Site(NamedTuple):
@@ -74,9 +77,21 @@ def find(line: Line, options: Options) -> Result:
     sites = _sites(line.decoded)
     left = [row for rows in placed.plan.aspects.values() for row in rows if row.number not in matched]
     found += [_lacking(sites[row.name], row) for row in left if row.name in sites and sites[row.name].is_read]
-    strange = [row.number for row in left if row.name not in sites]
-    notes = [f"{placed.plan.path}: {rows_words(strange)}: the table has no such aspect"] if strange else []
-    return placed.result(["aspect"], found, counts, notes)
+    return placed.result(["aspect"], found, counts)
+
+
+def all_terms_of(packet: Packet) -> Terms:
+    """The same, and the keys that no plan has which is made of telegrams."""
+    form, unit, found = packet.form, packet.unit, dict(terms_of(packet))
+    overlap, danger, timer = form.get("overlap"), form.get("danger_point"), form.get("end_timer")
+    found["danger"] = danger["d_dp"] * unit if danger else None
+    found["loa"] = form["end_speed"]
+    found["end_start"] = timer["d_endtimerstartloc"] * unit if timer else None
+    found["overlap_start"] = overlap["d_startol"] * unit if overlap else None
+    times = {"loa_time": form["end_timeout"]}
+    times.update({"end_time": timer["t_endtimer"]} if timer else {})
+    times.update({"overlap_time": overlap["t_ol"]} if overlap else {})
+    return {**found, **{key: None if time == NO_TIME_OUT else time for key, time in times.items()}}
 
 
 def terms_of(packet: Packet) -> Terms:
@@ -106,9 +121,9 @@ def _sites(decoded: Decoded) -> Dict[str, Site]:
 
 def _compare(saying: Saying, row: PlanRow, options: Options) -> Iterator[Remark]:
     """One remark on all values that differ."""
-    packet, said = saying.packet, terms_of(saying.packet)
+    packet, said = saying.packet, all_terms_of(saying.packet)
     more = int(options.tolerance * 10)
-    allowed = {"end": more + allowance(packet, packet.lengths), "overlap": more + allowance(packet)}
+    allowed = {**dict.fromkeys(LENGTHS, more + allowance(packet)), "end": more + allowance(packet, packet.lengths)}
     differ = [key for key, value in row.terms.items() if not _is_alike(said.get(key), value, allowed.get(key, 0))]
     if differ:
         texts = [
@@ -117,9 +132,12 @@ def _compare(saying: Saying, row: PlanRow, options: Options) -> Iterator[Remark]
         ]
         values = {}
         for key in differ:
-            for name, value in ((f"{key}_{UNITS[key]}", said.get(key)), (f"plan_{key}_{UNITS[key]}", row.terms[key])):
+            unit = "m" if key in LENGTHS else "s" if key in TIMES else "kmh"
+            for name, value in ((f"{key}_{unit}", said.get(key)), (f"plan_{key}_{unit}", row.terms[key])):
                 if value is not None:
-                    values[name] = Decimal(value) / 10 if key in LENGTHS else Decimal(value * STEP)
+                    values[name] = (
+                        Decimal(value) / 10 if unit == "m" else Decimal(value * (STEP if unit == "kmh" else 1))
+                    )
         sentence = f"{' by the plan; '.join(texts)} by {plan_words(row, with_km=False)}"
         yield remark("X4", [saying], sentence, values, [cells_of(row)])
 

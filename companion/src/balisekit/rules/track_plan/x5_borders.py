@@ -15,6 +15,7 @@ no packet names. The rule rests on SUBSET-026, 7.4.2 and 7.5.1.
   track has a refused telegram, or a packet about such borders that cannot be compared. Such a packet has no known place
   or direction, leads beyond a `point`, or follows a packet 136. If a packet 41, 42, 46 or 131 of the table could not be
   decoded, no such border is reported.
+- A border beyond the first or last group of its track that no packet names is not compared.
 
 Why it matters. At worst the train gets wrong information. It runs in a level that the track does not support there, or
 asks the wrong RBC for its authority.
@@ -49,6 +50,7 @@ from balisekit.rules.track_plan.placed import (
     BEHIND_POINT,
     NO_PLACE,
     SAYS_NOTHING,
+    BEYOND,
     PlacedPlan,
     Spot,
     cells_of,
@@ -93,6 +95,8 @@ def find(line: Line, options: Options) -> Result:
     rows = [row for kind in BORDERS for row in placed.plan.of_kind(kind) if (kind, row.track) not in unplaced]
     left = [row for row in rows if row.number not in named]
     remarks += [] if counts[NOT_DECODED] else [each for row in left for each in _unnamed(placed, row)]
+    beyond = sum(1 for row in left if _is_beyond(placed, row))
+    counts.update({BEYOND: beyond} if beyond else {})
     return placed.result(BORDERS, remarks, counts)
 
 
@@ -136,6 +140,13 @@ def _remark(placed: PlacedPlan, said: Sequence[Tuple[Border, int, Sequence[Spot]
     values.update({**numbers(border.kind, border.text), **numbers(border.kind, spot.row.text_value, "plan_")})
     facts = {cells_of(each.row) for _, _, spots in said for each in spots}
     return remark("X5", [each.saying for each, _, _ in said], sentence, values, sorted(facts))
+
+
+def _is_beyond(placed: PlacedPlan, row: PlanRow) -> bool:
+    """Whether a border is before the first or after the last group of its track."""
+    place = placed.place(row.track, row.km)
+    known = placed.decoded.nearest(row.track, place) if place is not None else None
+    return place is not None and known is not None and not placed.decoded.is_inside(row.track, place)
 
 
 def _unnamed(placed: PlacedPlan, row: PlanRow) -> Iterator[Remark]:

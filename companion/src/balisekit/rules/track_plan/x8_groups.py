@@ -1,0 +1,159 @@
+"""X8: balise group or link other than in the plan.
+
+What it says. A balise group differs from its row of the plan, or a packet 5 gives the group another distance or
+orientation than the plan. The rule rests on SUBSET-026, 7.4.2, 7.5.1 and 8.4.2.
+- Groups: the rule compares a group with the row of the plan that has its name. The rule compares the kilometres of the
+  balises, the track, the nominal direction, the identity, the number of balises and Q_LINK, as far as the row states
+  them. It compares the last three in each telegram of the group.
+- Links: the rule compares the distance and the orientation of each link. The plan must have the group that sends the
+  link and the group that the link names, on one track and each with its way. D_LINK is added up from the group that
+  sends the packet.
+- Messages: the links of a message are compared in the same way, from its reference group.
+- Kilometres may differ by `--tolerance` (default 0) and by one unit of the last decimal of the kilometres, at most 1 m.
+- The sum of D_LINK may differ as kilometres may. It may also differ by one unit of Q_SCALE, and by half a unit for each
+  further link. Q_LOCACC is not added to this tolerance, because it is no error of the data.
+
+Why it matters. At worst the train believes itself to be somewhere else, or gets information that is for another group.
+
+Example. Before (`examples/meaning/level-border.csv` with `--plan` `examples/meaning/plan.csv`): NID_C and NID_BG of
+Signal 15 are 352/15, and 352/16 by the plan. After: both have one identity.
+
+When it is a false alarm. The rule assumes that the plan has the kilometre of the first balise of a group, and not the
+kilometre of its signal. It assumes that kilometres of the plan are positions on the track. That is wrong if the
+kilometres jump and neither `--jumps` nor the plan states it.
+
+Usual cause. A balise was copied from another group, or a group was moved and its links were not corrected.
+
+How to correct it. Correct the header or the packet 5, the kilometre of the table, or the row of the plan.
+
+How to accept it. State why the group differs from the plan.
+"""
+from __future__ import annotations
+
+from collections import Counter
+from decimal import Decimal
+from typing import Dict, Iterator, List, Tuple
+
+from balisekit.design.groups import DesignedGroup, DesignedGroups, differing_kilometres, link
+from balisekit.etcs.geometry import NOMINAL
+from balisekit.rules.line import Line
+from balisekit.rules.location import NO_DIRECTION
+from balisekit.rules.passages import GroupData, Passage
+from balisekit.rules.rule import Options, Remark, Result, Rule, Urgency
+from balisekit.rules.telegrams import LINKING, Link, Packet, rounding
+from balisekit.rules.track_plan.placed import SAYS_NOTHING, PlacedPlan, cells_of, plan_words
+from balisekit.tables.names import clean, kilometre, quoted, rows_words
+from balisekit.tables.plan import WAY_WORDS
+from balisekit.tables.plan_values import metres
+
+REFUSED = "no telegram is read"
+
+
+def find(line: Line, options: Options) -> Result:
+    """Compares each group that the plan has, and each link between two of them."""
+    placed, counts = PlacedPlan(line, options), Counter[str]()
+    designed = DesignedGroups(placed.plan, options.jumps)
+    found: List[Remark] = []
+    if not designed:
+        return placed.result(["group"], found, counts)
+    for data in line.decoded.groups:
+        group = designed.by_name.get(clean(data.group.group.name))
+        counts[SAYS_NOTHING if group is None else "" if data.telegrams else REFUSED] += 1
+        if group:
+            found += _of_group(line, data, group, options, counts)
+    return placed.result(["group"], [*found, *_of_links(line, designed, options, counts)], counts)
+
+
+def _of_group(
+    line: Line, data: GroupData, group: DesignedGroup, options: Options, counts: Dict[str, int]
+) -> Iterator[Remark]:
+    """One remark on all that differs in a group."""
+    differ = [*_headers(data, group), *_places(line, data, group, options)]
+    if group.nominal and data.group.rising is None:
+        counts[NO_DIRECTION] += 1
+    elif group.nominal and data.group.rising != group.nominal:
+        ways = WAY_WORDS[data.group.rising or 0], WAY_WORDS[group.nominal]
+        differ.append(f"the kilometres are {ways[0]} in nominal direction, and {ways[1]}")
+    if differ:
+        sentence = f"{' by the plan; '.join(differ)} by {plan_words(group.row, with_km=False)}"
+        yield Remark("X8", data.location(), sentence, facts=[cells_of(group.row)])
+
+
+def _headers(data: GroupData, group: DesignedGroup) -> Iterator[str]:
+    """What differs in the headers: each other value once, with its rows."""
+    terms = group.row.group_terms
+    rows: Dict[str, List[int]] = {}
+    for row, header in ((number, telegram.header) for number, telegram in data.telegrams.items()):
+        identity = header.nid_c, header.nid_bg
+        if terms.identity and identity != terms.identity:
+            own, wanted = (f"{each[0]}/{each[1]}" for each in (identity, terms.identity))
+            rows.setdefault(f"NID_C and NID_BG are {own}{{}}, and {wanted}", []).append(row)
+        if terms.balises and header.n_total + 1 != terms.balises:
+            text = f"N_TOTAL is {header.n_total} ({header.n_total + 1} balises){{}}, and {terms.balises - 1}"
+            rows.setdefault(text, []).append(row)
+        if terms.is_linked is not None and bool(header.q_link) != terms.is_linked:
+            rows.setdefault(f"Q_LINK is {int(header.q_link)}{{}}, and {int(terms.is_linked)}", []).append(row)
+    for text, numbers in rows.items():
+        yield text.format("" if len(numbers) == len(data.telegrams) else f" in {rows_words(sorted(numbers))}")
+
+
+def _places(line: Line, data: GroupData, group: DesignedGroup, options: Options) -> Iterator[str]:
+    """What differs in the track, the kilometre and the kilometres of the balises."""
+    own, row, allowed = data.group, group.row, line.decoded.tolerance(options.tolerance)
+    if clean(own.track) != row.track:
+        yield f"the track is {quoted(own.track)}, and {quoted(row.track)}"
+    stated, wanted = [each.km for each in own.group.aspects[0].rows], row.group_terms.kilometres
+    for what, pair in (("the first", ([own.km], [row.km])), ("a", (stated[1:], wanted[1:]))):
+        for one, other in differing_kilometres(*pair, allowed):
+            yield f"{what} balise is at km {kilometre(one)}, and at km {kilometre(other)}"
+
+
+def _of_links(line: Line, designed: DesignedGroups, options: Options, counts: Dict[str, int]) -> Iterator[Remark]:
+    """Compares the links of all groups and messages. Links of several telegrams that differ alike are one remark."""
+    found: Dict[Tuple[str, str], List[Remark]] = {}
+    seen = set()
+    for passage in line.decoded.passages:
+        for packet in passage.of(LINKING):
+            for each in packet.links if (packet, passage.direction) not in seen else ():
+                for remark in _of_link(line, designed, options, counts, passage, packet, each):
+                    found.setdefault((remark.sentence, str(passage.group)), []).append(remark)
+            seen.add((packet, passage.direction))
+    for first, *others in found.values():
+        yield first._replace(also=[other.location for other in others])
+
+
+def _of_link(
+    line: Line,
+    designed: DesignedGroups,
+    options: Options,
+    counts: Dict[str, int],
+    passage: Passage,
+    packet: Packet,
+    own: Link,
+) -> Iterator[Remark]:
+    """Compares one link of a packet 5."""
+    sender = designed.by_name.get(clean(passage.group.group.group.name)) if passage.group else None
+    target = designed.by_identity.get(own.identity)
+    if sender is None or target is None:
+        counts[SAYS_NOTHING] += own.known
+        return
+    wanted, why = link(sender, target, passage.direction == NOMINAL)
+    counts[why] += 1
+    if wanted is None:
+        return
+    allowed = line.decoded.tolerance(options.tolerance, rounding(own.unit, own.number + 1))
+    differ: List[str] = []
+    values: Dict[str, Decimal] = {}
+    if abs(own.total - wanted.distance) > allowed:
+        differ.append(f"D_LINK adds up to {metres(own.total)} m, and to {metres(wanted.distance)} m")
+        values = {"d_link_m": Decimal(own.total) / 10, "plan_d_link_m": Decimal(wanted.distance) / 10}
+    if own.nominal != wanted.is_nominal:
+        differ.append(f"Q_LINKORIENTATION is {int(own.nominal)}, and {int(wanted.is_nominal)}")
+    if differ:
+        rows = rows_words([sender.row.number, target.row.number])
+        sentence = f"{clean(target.row.name)}: {' by the plan; '.join(differ)} by {rows} of the plan"
+        facts = [cells_of(sender.row), cells_of(target.row)]
+        yield Remark("X8", passage.at(packet, own.number), sentence, values=values, facts=facts)
+
+
+RULE = Rule("X8", "statements about groups", __doc__ or "", find, Urgency.WRONG_PLACE)

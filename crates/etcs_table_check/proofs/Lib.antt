@@ -1,0 +1,6 @@
+pub mod ReadLemmas
+pub mod FoldLemmas
+pub mod ShapeLemmas
+pub mod CountLemmas
+pub mod VerdictLemmas
+pub mod LineLemmas
