@@ -3,7 +3,8 @@
 Times are those of the processor, of balisekit and the program together: those of the clock depend on what else runs.
 What else runs makes the processor slower too, by its use of memory. So while a task runs, a process beside it does a
 fixed piece of work of the same kind again and again, for a quarter of the time. Limits are seconds of a machine on
-which a piece takes UNIT. What takes too long is measured once more, because load changes.
+which a piece takes UNIT. What takes too long is measured again after a pause, because load changes and only ever makes
+a task slower: a task that is too slow by itself is so each time.
 """
 from __future__ import annotations
 
@@ -17,6 +18,7 @@ from itertools import cycle
 from typing import Callable, Iterator, List
 
 UNIT = 0.0146
+MEASUREMENTS = 6
 
 
 def _spent() -> float:
@@ -61,9 +63,10 @@ def seconds(task: Callable[[], object]) -> float:
 
 
 def is_quick(measure: Callable[[], float]) -> bool:
-    """Whether one of at most two measurements is at most 1. Each is divided by its limit."""
+    """Whether one of at most MEASUREMENTS is at most 1. Each is divided by its limit."""
     measured: List[float] = []
-    while len(measured) < 2 and (not measured or measured[-1] > 1):
+    while len(measured) < MEASUREMENTS and (not measured or measured[-1] > 1):
+        time.sleep(len(measured))
         measured.append(measure())
     print("of the limit:", measured)  # (shown if the test fails, and by pytest -rP)
     return measured[-1] <= 1
