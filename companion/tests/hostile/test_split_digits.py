@@ -19,6 +19,8 @@ _LINES = Path(__file__).with_name("split_digits.txt").read_text("utf-8").splitli
 ROWS = [line for line in _LINES if not line.startswith("#")]
 REAL = "a1007f802000c31024a5007fe007d002a813a000105080647fffc0"
 """It has packets."""
+SHORT = "a1027fac0000c1503620fa000111420fa0001d17ffffffffffffc0"
+"""It has fill from the 41st digit on."""
 TELEGRAMS = {"bare": ALONE, "faulty": FAULTY, "packets": REAL}
 
 
@@ -62,6 +64,32 @@ def test_one_below_the_other(telegram: str, sizes: str, run: Run, table: Write) 
     path = table(content=b"", name="book.xlsx")
     book.save(path)
     assert rows_named(run, path) == [*range(2, 2 + len(cells))]
+
+
+@pytest.mark.parametrize("sizes", ["20 20", "26 14", "10 10 10 10", "8 8 8 8 8"])
+def test_one_below_the_other_without_fill(sizes: str, run: Run, table: Write) -> None:
+    """What fills a telegram up behind its packets is often not written."""
+    digits = SHORT.rstrip("0c").rstrip("f")
+    rest = f"{{{sizes}}}"
+    cells = [" ".join(cell[at : at + 2] for at in range(0, len(cell), 2)) for cell in cells_of(rest, digits)]
+    path = table("group;telegram;old", *(f"G{at};{ALONE};{cell}" for at, cell in enumerate(["", *cells, "a1"])))
+    assert len(digits) == 40 and rows_named(run, path) == [*range(3, 3 + len(cells))]
+
+
+@pytest.mark.parametrize("size", [8, 16, 20, 24])
+def test_rows_of_random_digits(size: int) -> None:
+    """One in 1,000 is named at most: lists of checksums are no telegrams."""
+    random = Random(size)
+    assert len(unread_digits.digits_in_rows([f"{random.getrandbits(4 * size):0{size}x}" for _ in range(20_000)])) <= 20
+
+
+@pytest.mark.parametrize("kind", ["md5", "sha1", "sha256"])
+def test_checksums_in_columns(kind: str, run: Run, table: Write) -> None:
+    """More than four of one length in a row could be the lines of a telegram: all their columns are named."""
+    sums = [getattr(hashlib, kind)(f"{at}".encode()).hexdigest() for at in range(5)]
+    path = table(";".join(["group", "telegram", *"abcde"]), ";".join(["G", ALONE, *sums]))
+    status, out, _ = run("check", path)
+    assert status == 2 and 'in columns "a", "b", "c", "d", "e", row 2' in "\n".join(out)
 
 
 def test_legal_tables(run: Run, table: Write) -> None:

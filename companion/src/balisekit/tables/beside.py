@@ -12,6 +12,7 @@ from balisekit.tables.cells import GREATEST_NAME, LINE_END, NEEDED, Sheet, digit
 from balisekit.tables.headings import KILOMETRE, compared, shown
 from balisekit.tables.unread_digits import (
     LEAST_RUN,
+    all_groups,
     could_hold_telegram,
     digits_in_rows,
     groups_of,
@@ -127,11 +128,12 @@ def _shared(columns: Mapping[int, Sequence[str]], begin: int) -> Dict[Tuple[int,
     possible = {number: text for number, text in texts if len(text) >= LEAST_SPREAD and possible_digits(text)}
     used: Set[int] = set()
     for number, text in possible.items():
-        sizes = sizes_of(groups_of(text))
-        cells = ((at, columns[at][number - begin - 1]) for at in places)
-        used.update(at for at, cell in cells if not sizes.isdisjoint(map(size, groups_of(cell))))
+        groups = groups_of(text)
+        sizes = sizes_of(groups)
+        cells = ((at, all_groups(columns[at][number - begin - 1])) for at in places)
+        used.update(at for at, own in cells if any(size(group) in sizes and group in groups for group in own))
     digits_of = {number: possible_digits(text) for number, text in possible.items()}
-    return {tuple(sorted(used)): digits_of} if possible else {}
+    return {tuple(sorted(used)) or places: digits_of} if possible else {}
 
 
 def _below(columns: Mapping[int, Sequence[str]], begin: int) -> Iterator[Tuple[Tuple[int, ...], Dict[int, int]]]:

@@ -8,6 +8,8 @@ import re
 from itertools import accumulate
 from typing import Dict, Iterator, List, Sequence
 
+from balisekit.etcs.packets import TRACK
+
 VERSIONS = ("a0", "a1", "90", "91")
 """With what a telegram begins."""
 LENGTHS = (53, 54, 208)
@@ -22,6 +24,8 @@ LEAST_BESIDE, LEAST_PIECE, LEAST_WORD = 12, 4, 7
 figures, which else are words."""
 LEAST_BEGIN, LONGEST_PACKET, BOTH_WAYS = 6, 780, 2
 """How long a piece with a header is, and the greatest length and direction of a packet."""
+LEAST_WITHOUT_FILL = 40
+"""How many digits are a telegram whose fill is not written: fewer could be so by chance."""
 FILLED = re.compile(r"(?:[fF]\|?){7}[fF](?=\||$)|(?<![0|])0{8,}(?=\||$)")
 """Fill at the end of a piece, or in pieces of its own."""
 SHORT_CHECKSUMS = (32, 40)
@@ -98,11 +102,21 @@ def begins_right(groups: Sequence[str]) -> bool:
     if count_from(groups, is_exact=True):
         return True
     digits = "".join(groups).lstrip("0fF")[:MOST]
-    bits = f"{int(digits or '0', 16):0{4 * len(digits)}b}"
+    bits = _bits(digits or "0")
     if 4 * len(digits) < HEADER + LEAST_PACKET or not is_header(digits):
         return False
-    number, way, length = (int(bits[HEADER + at : HEADER + to], 2) for at, to in ((0, 8), (8, 10), (10, 23)))
-    return number == END or 0 < number and way <= BOTH_WAYS and LEAST_PACKET <= length <= LONGEST_PACKET
+    return _number(bits, HEADER) == END or _number(bits, HEADER) > 0 and _has_length(bits, HEADER)
+
+
+def _number(bits: str, at: int) -> int:
+    """The number of the packet at this place."""
+    return int(bits[at : at + 8], 2)
+
+
+def _has_length(bits: str, at: int) -> bool:
+    """Whether a packet has a direction and a length that a packet can have."""
+    way, length = (int(bits[at + begin : at + end] or "0", 2) for begin, end in ((8, 10), (10, 23)))
+    return way <= BOTH_WAYS and LEAST_PACKET <= length <= LONGEST_PACKET
 
 
 def _ends_right(groups: Sequence[str], checksums: Sequence[str]) -> bool:
@@ -145,38 +159,59 @@ def count_from(groups: Sequence[str], is_exact: bool = False) -> int:
     """How many groups are a telegram together, from the first one on. 0 if they are none.
 
     They begin with a header, perhaps after fill. Their packets have an end, and only fill is behind the last digit of a
-    telegram. If `is_exact` they have exactly the length of one and no words, and their packets may have faults.
+    telegram, or behind that end if the fill of the telegram is not written. If `is_exact` they have exactly the length
+    of one and no words, and their packets may have faults.
     """
     first = "".join(groups[:6]).lstrip("0fF")
     if len(first) < 6 or not is_header(first):
         return 0
+    without_fill = 0
     for count, length in enumerate(accumulate(map(len, groups)), 1):
         if length > MOST:
             break
-        digits = "".join(groups[:count]).lstrip("0fF") if length >= LENGTHS[0] else ""
+        digits = "".join(groups[:count]).lstrip("0fF") if length >= LEAST_WITHOUT_FILL else ""
         if len(digits) in LENGTHS and not any(map(_is_said, groups[:count])) if is_exact else _is_whole(digits):
             return count
-    return 0
+        if not is_exact and not without_fill and len(digits) >= LEAST_WITHOUT_FILL and _is_without_fill(digits):
+            without_fill = count
+    return without_fill
 
 
 def _is_whole(digits: str) -> bool:
     """Whether digits are a telegram, perhaps with fill behind it."""
     rests = [digits[length:].lower() for length in LENGTHS if len(digits) >= length]
-    return any(len({*rest}) < 2 for rest in rests) and _has_end(digits)
+    return any(len({*rest}) < 2 for rest in rests) and _end_of(digits) > 0
 
 
-def _has_end(digits: str) -> bool:
-    """Whether the packets of a telegram have an end."""
-    bits, at = f"{int(digits, 16):0{4 * len(digits)}b}", HEADER
-    while at + 8 <= len(bits):
-        packet = int(bits[at : at + 8], 2)
-        if packet == END:
-            return True
+def _is_without_fill(digits: str) -> bool:
+    """Whether digits are a telegram up to its end, with nothing or only fill behind it. The end may be cut off too."""
+    bits, end, *places = _bits(digits), _end_of(f"{digits}ff"), *_places(f"{digits}ff")[:-1]
+    packets = [at for at in places if _number(bits, at)]  # (a long row of zeros looks like packets 0)
+    are_known = all(_number(bits, at) in TRACK and _has_length(bits, at) for at in packets)
+    return end > 0 and bool(packets) and are_known and len({*bits[end:]}) < 2
+
+
+def _end_of(digits: str) -> int:
+    """How many bits the header and the packets of a telegram have with the mark of their end. 0 if it has no end."""
+    bits, at = _bits(digits), _places(digits)[-1]
+    return at + 8 if bits[at : at + 8] == f"{END:b}" else 0
+
+
+def _places(digits: str) -> List[int]:
+    """Where the packets of a telegram begin, in bits. The last place has the mark of the end, or is none of a packet."""
+    bits, places = _bits(digits), [HEADER]
+    while places[-1] + 8 <= len(bits):
+        at = places[-1]
+        packet = _number(bits, at)
         length = int(bits[at + 10 : at + 23] or "0", 2) if packet else VIRTUAL
-        if length < (LEAST_PACKET if packet else VIRTUAL):
-            return False
-        at += length
-    return False
+        if packet == END or length < (LEAST_PACKET if packet else VIRTUAL):
+            break
+        places.append(at + length)
+    return places
+
+
+def _bits(digits: str) -> str:
+    return f"{int(digits, 16):0{4 * len(digits)}b}"
 
 
 def in_rows(rows: Sequence[List[str]]) -> Iterator[range]:
@@ -193,13 +228,15 @@ def in_rows(rows: Sequence[List[str]]) -> Iterator[range]:
 
 
 def _can_begin(ahead: str) -> bool:
-    """Whether the digits from a row on have a header and packets with an end. Few rows do, so all else is not tried."""
+    """Whether the digits from a row on have a header and packets that end there. Few rows do: no others are tried."""
     digits = ahead.lstrip("0fF")
     return digits[:2].lower() in VERSIONS and _can_be_telegram(digits.partition(BREAK)[0])
 
 
 def _can_be_telegram(digits: str) -> bool:
-    return len(digits) >= 6 and is_header(digits) and _has_end(digits)
+    if len(digits) < 6 or not is_header(digits):
+        return False
+    return _end_of(digits) > 0 or any(4 * LEAST_WITHOUT_FILL - 8 <= at <= 4 * len(digits) for at in _places(digits))
 
 
 def _rows_from(rows: Sequence[List[str]], begin: int) -> int:
