@@ -1153,6 +1153,16 @@ def test_e29_of_two_conditions(found: Found) -> None:
     assert one.location.row and one.location.row.group == "Signal 2"
 
 
+def test_e29_of_two_packets_of_one_message(found: Found) -> None:
+    """They show that there are two conditions, as two elements of one packet do. Two aspects are two messages."""
+    both = with_packet("Signal 3", FIXED, condition(2500)), with_packet("Signal 3", YELLOW, condition(2600))
+    for at in (FIXED, YELLOW, GREEN):
+        assert not found("E29", SHORT, all_of(*both, with_packet("Signal 4", at, condition(1100))))
+    apart = with_packet("Signal 3", GREEN, condition(2500)), with_packet("Signal 3", YELLOW, condition(2600))
+    (one,) = found("E29", SHORT, all_of(*apart))
+    assert rows_named(one) == (12, 13)
+
+
 def kinds(*own: int) -> Any:
     """A packet 68 with conditions of these kinds at one place, which begins 1,000 m from its group."""
     first, *more = own

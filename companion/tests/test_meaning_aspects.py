@@ -5,7 +5,7 @@ from dataclasses import replace
 from decimal import Decimal
 from functools import partial
 from pathlib import Path
-from typing import Any, List, Optional, Sequence, Tuple
+from typing import Any, Dict, List, Optional, Sequence, Tuple
 
 import pytest
 from conftest import Run
@@ -30,8 +30,13 @@ from meaning_mistakes_of_groups import (
 from test_meaning import remarks, written
 
 from balisekit.engine.program import Program
-from balisekit.rules.rule import Options, Remark, Urgency
-from balisekit.tables import plan as plan_file
+from balisekit.rules import checking
+from balisekit.rules.line import Line as LineOfTable
+from balisekit.rules.meaning import RULES
+from balisekit.rules.meaning.aspect_pairs import NO_ORDER, STAGGERED
+from balisekit.rules.meaning.stop_names import NO_MAJORITY
+from balisekit.rules.rule import Options, Remark, Result, Urgency
+from balisekit.tables import plan as plan_file, reader
 
 PROFILES = "21 (gradient profile), 27 (international static speed profile)"
 FOUR = Line(signals=6, aspects=(RED, YELLOW, GREEN, "blue"))
@@ -325,6 +330,67 @@ def test_e9_of_stops(program: Program, tmp_path: Path) -> None:
             'V_MAIN of the aspect "green" is 0 km/h [0], and in 5 of 6 cases of the table it is above 0',
         ),
     ]
+
+
+def left_of(program: Program, path: Path, rule: str, *changes: Change, line: Line = SHORT) -> Dict[str, int]:
+    """What a rule has not compared, by the reason."""
+    return dict(result_of(program, path, rule, *changes, line=line).not_looked_at)
+
+
+def result_of(program: Program, path: Path, rule: str, *changes: Change, line: Line = SHORT) -> Result:
+    """What a rule answers."""
+    table = reader.read(str(written(program, path, line, *changes)))
+    (one,) = [each for each in RULES if each.name == rule]
+    return one.find(LineOfTable.of(checking.check(program, table)), Options())
+
+
+def swapped(signal: int, one: str = RED, other: str = YELLOW) -> Change:
+    """Exchanges all packets of two aspects."""
+
+    def swap(rows: List[Row]) -> None:
+        first, second = (telegram(rows, signal, aspect) for aspect in (one, other))
+        first["packets"], second["packets"] = second["packets"], first["packets"]
+
+    return swap
+
+
+def test_e9_of_stops_below_its_majority(program: Program, tmp_path: Path) -> None:
+    """Red and yellow are exchanged at one of four signals: three are enough, because both contradict them."""
+    made = found(program, tmp_path / "t.csv", "E9", swapped(3), line=Line(signals=4))
+    stops = [each.sentence for each in made if each.sentence.startswith("V_MAIN")]
+    assert len(stops) == 2 and all("in 3 of 4 cases of the table" in each for each in stops)
+    assert stops[0].endswith('it is 0; V_MAIN of "yellow" is 0 here, and above 0 in most cases')
+    assert stops[1].endswith('it is above 0; V_MAIN of "red" is above 0 here, and 0 in most cases')
+
+
+def test_e9_of_groups_without_a_stop(program: Program, tmp_path: Path) -> None:
+    """At 5 of 15 signals no aspect stops trains. If another aspect stops them, they are only counted."""
+    line = Line()
+    running = [packet_with(signal, RED, 12, v_main=8, l_endsection=500) for signal in (2, 5, 8, 11, 14)]
+    made = found(program, tmp_path / "t.csv", "E9", *running, line=line)
+    assert len(made) == 5 and all("in 10 of 15 cases" in each.sentence for each in made)
+    assert all(each.sentence.endswith("it is 0; no aspect of this group has V_MAIN 0") for each in made)
+    stopping = [packet_with(signal, GREEN, 12, v_main=0) for signal in (2, 5, 8, 11)]
+    result = result_of(program, tmp_path / "t.csv", "E9", *stopping, line=line)
+    assert not result.found and result.looked_at == 11
+    assert list(result.not_looked_at.items()) == [(NO_MAJORITY, 4)]
+
+
+def test_e9_counts_what_no_order_shows(program: Program, tmp_path: Path) -> None:
+    """Two of six signals are against the others: no order is known, so that both are counted."""
+    assert left_of(program, tmp_path / "t.csv", "E9", exchanged(3), exchanged(4)) == {NO_ORDER: 2}
+    assert not left_of(program, tmp_path / "t.csv", "E9", exchanged(3))
+
+
+def test_e9_of_signals_beside_each_other(program: Program, tmp_path: Path) -> None:
+    """Staggered exit signals of two tracks show no order, and are counted."""
+    near = [packet_with(signal, GREEN, 12, l_endsection=1530) for signal in (1, 2, 4, 5, 6)]
+    result = result_of(program, tmp_path / "t.csv", "E9", *near, packet_with(3, GREEN, 12, l_endsection=1470))
+    assert not result.found and dict(result.not_looked_at) == {STAGGERED: 1} and result.looked_at == 5
+    short = [packet_with(signal, YELLOW, 12, l_endsection=150) for signal in (1, 2, 4, 5, 6)]
+    short += [packet_with(signal, GREEN, 12, l_endsection=300) for signal in (1, 2, 4, 5, 6)]
+    short += [packet_with(3, YELLOW, 12, l_endsection=300), packet_with(3, GREEN, 12, l_endsection=150)]
+    assert len(found(program, tmp_path / "t.csv", "E9", *short)) == 1
 
 
 def test_e10(program: Program, tmp_path: Path) -> None:

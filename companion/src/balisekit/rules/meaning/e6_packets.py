@@ -16,8 +16,8 @@ packet 12. The rule rests on SUBSET-026, 7.4, 8.4.4 and 8.7.
   6, 13, 16, 46, 90, 132 to 137, 145 and 254.
 
 Why it matters. At worst the train gets wrong information. The train might use either of two packets, or reject the
-message. So a red aspect with a second packet 12 might not stop the train. A train does not use a packet of a balise that only radio sends. It looks for a packet 0 only at the beginning
-of a telegram.
+message. So a red aspect with a second packet 12 might not stop the train. A train does not use a packet of a balise
+that only radio sends. It looks for a packet 0 only at the beginning of a telegram.
 
 Example. Before (`examples/meaning/mistakes/E6.csv`): at "yellow" of Signal 3 (km 13.003) a train gets 2 packets 5 in
 nominal direction, in rows 10 and 12. After: only row 10 has a packet 5.
