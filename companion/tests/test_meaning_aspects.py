@@ -34,6 +34,7 @@ from balisekit.rules import checking
 from balisekit.rules.line import Line as LineOfTable
 from balisekit.rules.meaning import RULES
 from balisekit.rules.meaning.aspect_pairs import NO_ORDER, STAGGERED
+from balisekit.rules.meaning.e24_unlike_namesakes import MAIN
 from balisekit.rules.meaning.stop_names import NO_MAJORITY
 from balisekit.rules.rule import Options, Remark, Result, Urgency
 from balisekit.tables import plan as plan_file, reader
@@ -333,8 +334,10 @@ def test_e9_of_stops(program: Program, tmp_path: Path) -> None:
 
 
 def left_of(program: Program, path: Path, rule: str, *changes: Change, line: Line = SHORT) -> Dict[str, int]:
-    """What a rule has not compared, by the reason."""
-    return dict(result_of(program, path, rule, *changes, line=line).not_looked_at)
+    """What a rule has not compared, by the reason. It has found nothing."""
+    result = result_of(program, path, rule, *changes, line=line)
+    assert not result.found
+    return {why: count for why, count in result.not_looked_at.items() if count}
 
 
 def result_of(program: Program, path: Path, rule: str, *changes: Change, line: Line = SHORT) -> Result:
@@ -379,7 +382,7 @@ def test_e9_of_groups_without_a_stop(program: Program, tmp_path: Path) -> None:
 def test_e9_counts_what_no_order_shows(program: Program, tmp_path: Path) -> None:
     """Two of six signals are against the others: no order is known, so that both are counted."""
     assert left_of(program, tmp_path / "t.csv", "E9", exchanged(3), exchanged(4)) == {NO_ORDER: 2}
-    assert not left_of(program, tmp_path / "t.csv", "E9", exchanged(3))
+    assert not result_of(program, tmp_path / "t.csv", "E9", exchanged(3)).not_looked_at
 
 
 def test_e9_of_signals_beside_each_other(program: Program, tmp_path: Path) -> None:
@@ -657,6 +660,28 @@ def test_e24_of_speeds(program: Program, tmp_path: Path) -> None:
     caution = [packet_with(signal, YELLOW, 12, v_main=8) for signal in (1, 2, 4, 5, 6)]
     (one,) = found(program, tmp_path / "t.csv", "E24", *caution)
     assert "V_MAIN is 140 km/h [28], and 40 km/h [8] at all 5 other signals" in one.sentence
+
+
+def test_e24_of_speeds_of_several_signals(program: Program, tmp_path: Path) -> None:
+    """Three of 15 are reported, since four times as many have what is usual. Four are counted."""
+    path, line, green = tmp_path / "t.csv", Line(), (2, 5, 8, 11)
+    high = [packet_with(signal, GREEN, 12, v_main=40) for signal in green]
+    made = found(program, path, "E24", *high[:3], line=line)
+    assert [each.aspects for each in made] == [[GREEN]] * 3
+    assert all(each.sentence.endswith("at 12 of 14 other signals they are equal") for each in made)
+    assert left_of(program, path, "E24", *high, line=line) == {MAIN: 4}
+    whole = [packet_with(signal, at, 12, v_main=10) for signal in green[:2] for at in (YELLOW, GREEN)]
+    assert left_of(program, path, "E24", *whole, line=line) == {MAIN: 4}
+    assert not left_of(program, path, "E24", line=line)
+
+
+def test_e24_of_a_speed_too_low_for_any_route(program: Program, tmp_path: Path) -> None:
+    """Each yellow is in on sight. A V_MAIN of 5 km/h is that of no slow route."""
+    mode = raw(80, f"01{0:015b}00{8:07b}{1500:015b}{0:015b}0{0:05b}")
+    usual = [packets_added(signal, YELLOW, mode) for signal in range(1, 7)]
+    (one,) = found(program, tmp_path / "t.csv", "E24", *usual, packet_with(3, YELLOW, 12, v_main=1))
+    assert one.rows == (row_of(3, YELLOW),) and "V_MAIN is 5 km/h [1]" in one.sentence
+    assert left_of(program, tmp_path / "t.csv", "E24", *usual, packet_with(3, YELLOW, 12, v_main=16)) == {MAIN: 1}
 
 
 def test_e24_of_stop_and_go(program: Program, run: Run, tmp_path: Path) -> None:
