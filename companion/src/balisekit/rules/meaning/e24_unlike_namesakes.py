@@ -10,9 +10,9 @@ other items are limits. The rule rests on SUBSET-026, 3.8 and 4.4.
   D_ENDTIMERSTARTLOC, M_MAMODE and V_MAMODE are compared. A value is reported if at least four other signals have this
   variable at the aspect, and all of them have one value. No aspect of another signal may have the reported value.
 - V_MAIN: a V_MAIN above 0 is reported in two cases. In the first case V_MAIN is the greatest V_STATIC at most signals,
-  but not at this one. In the second case most signals have one V_MAIN, and this signal has another one. For each
-  signal that differs, at least four others with a V_MAIN above 0 at this aspect must have what is usual. Of the two
-  cases, the one with fewer differing signals counts.
+  but not at this one. In the second case most signals have one V_MAIN, and this signal has another one. For each signal
+  that differs, at least four others with a V_MAIN above 0 at this aspect must have what is usual. Of the two cases, the
+  one with fewer differing signals counts.
 - "Go" at a stop aspect: Q_SRSTOP of packet 137 or Q_ASPECT of packet 132 is "go" beside a V_MAIN of 0. The aspect is
   reported if only this signal has "go", and another signal has "stop" at its aspect of the same name.
 - "Stop" at a proceed aspect: Q_SRSTOP is "stop" beside a V_MAIN above 0. The aspect is reported if only this signal has
@@ -29,10 +29,10 @@ other items are limits. The rule rests on SUBSET-026, 3.8 and 4.4.
 - Values that are not reported: a value beside a D_OL or D_DP that no other signal has is not compared. A D_STARTOL that
   is equal to L_ENDSECTION is not compared either. Values and orders to stop or go that differ at several signals are
   counted as not compared.
-- V_MAIN that is not reported: a V_MAIN that is too low is reported only if another proceed aspect of the signal has its
-  usual V_MAIN. In the first case V_MAIN is not reported if another aspect of the signal has the same V_MAIN, or if all
-  other signals have it. In the second case a low V_MAIN is not reported if it is equal to the greatest V_STATIC. A
-  speed that E2 reports is not reported again.
+- V_MAIN that is not reported: a V_MAIN that is too low is reported only if one signal differs, and another proceed
+  aspect of it has its usual V_MAIN. In the first case V_MAIN is not reported if another aspect of the signal has the
+  same V_MAIN, or if all other signals have it. In the second case a low V_MAIN is not reported if it is equal to the
+  greatest V_STATIC. A speed that E2 reports is not reported again.
 - Slow routes: an aspect with a packet 80 might lead to a slow route, so that its V_MAIN or V_MAMODE is lower than
   usual. The lower value is not reported if a V_STATIC of the aspect is equal to it, or is not above the usual speed. A
   V_MAIN below half of each V_STATIC is that of no route. V_MAIN is not compared at an aspect with a packet 80 if less

@@ -29,16 +29,16 @@ def unlike_speeds(cases: Cases) -> Differing:
     moving = [[case for case in own if not _is_alone_with_mode(case, own)] for own in moving]
     pairs = [(own, list(_unlike(own))) for own in moving if signals_of(own) >= LEAST]
     unlike = [each for _, some in pairs for each in some]
-    few = [each for own, some in pairs if _are_few(some, own) for each in some]
+    few = [each for own, some in pairs for each in some if _is_of_few(each, some, own)]
     odd = list(_odd(moving, few, unlike))
     known = {id(each.case) for each in odd}
     return Differing(odd, [each.case for each in unlike if id(each.case) not in known])
 
 
-def _are_few(some: Sequence[Odd], own: Sequence[Case]) -> bool:
-    """Whether several times as many signals have what is usual."""
+def _is_of_few(odd: Odd, some: Sequence[Odd], own: Sequence[Case]) -> bool:
+    """Whether several times as many signals have what is usual. Several might have a low V_MAIN of their own."""
     count = signals_of([each.case for each in some])
-    return FOR_EACH * count <= signals_of(own) - count
+    return FOR_EACH * count <= signals_of(own) - count and (count == 1 or odd.sent > odd.usual)
 
 
 def _is_alone_with_mode(case: Case, own: Sequence[Case]) -> bool:
@@ -47,7 +47,7 @@ def _is_alone_with_mode(case: Case, own: Sequence[Case]) -> bool:
 
 
 def _unlike(cases: Sequence[Case]) -> Iterator[Odd]:
-    """The V_MAIN that are not the greatest V_STATIC, or not the most frequent speed, if fewer signals differ from it."""
+    """The V_MAIN that are not the greatest V_STATIC, or not the most frequent one if fewer signals differ from that."""
     of_profile = [case for case in cases if case.speed != case.of_profile]
     counts = Counter(case.speed for case in cases)
     most = max(counts, key=counts.__getitem__)
