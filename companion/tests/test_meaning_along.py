@@ -37,6 +37,7 @@ from meaning_mistakes_of_groups import FIXED, GREEN, MISTAKES_FOLDER, RED, SHORT
 from test_meaning import written
 
 from balisekit.engine.program import Program
+from balisekit.present.links_text import is_usual
 from balisekit.rules import checking, links, meaning
 from balisekit.rules.chainage import Jump
 from balisekit.rules.line import Line as LineOfTable
@@ -236,13 +237,42 @@ def test_e12_between_groups_by_several_signals(found: Found) -> None:
         links = change(rows, "Signal 3", FIXED, 5)["links"]
         links[:] = [{**links[0], "d_link": 300, "nid_bg": 99}]
 
-    for change_, why, count in (
-        (all_of(*three), ends_between.BETWEEN, 3),
-        (all_of(three[0], links_to_the_end), ends_between.NOT_BEYOND, 1),
-        (all_of(three[0], without_links), ends_between.NOT_BEYOND, 1),
+    for change_, why, count, beyond in (
+        (all_of(*three), ends_between.BETWEEN, 3, 3),
+        (all_of(three[0], links_to_the_end), ends_between.NOT_BEYOND, 1, 3),
+        (all_of(three[0], without_links), ends_between.NOT_BEYOND, 1, 1),  # (without links two are compared there)
     ):
         result = found.result("E12", line, change_)
-        assert not result.found and result.not_looked_at == {why: count}
+        assert not result.found and result.not_looked_at == {why: count, BEYOND["E12"]: beyond}
+
+
+BEYOND = {
+    "E12": "beyond the last group that gives an authority",
+    "E17": "beyond the last linked group of the track",
+    "E25": "beyond the last group of the track",
+}
+
+
+@pytest.mark.parametrize("rule", BEYOND)
+def test_ends_far_beyond_the_line_are_not_as_of_most_lines(found: Found, rule: str) -> None:
+    """An authority that leads 30 km beyond the last signal is counted with a reason that sound lines do not have."""
+    near, line = BEYOND[rule], Line()
+    far = f"farther {near} than any other authority is long"
+    sound = found.result(rule, line)
+    assert dict(sound.not_looked_at) == {near: 3} and is_usual(sound)
+    result = found.result(rule, line, set_in("Signal 15", GREEN, 12, l_endsection=30_000))
+    assert dict(result.not_looked_at) == {near: 2, far: 1} and not is_usual(result) and not result.found
+    assert result.looked_at == sound.looked_at == 27
+
+
+def test_e17_beyond_the_line_if_links_lead_there(found: Found) -> None:
+    """Groups beyond the table might be linked to the end: then nothing of the authority is left out."""
+
+    def linked(rows: List[Row]) -> None:
+        links = change(rows, "Signal 14", FIXED, 5)["links"]
+        links += [{**links[0], "d_link": 1500, "nid_bg": number} for number in (98, 99)]
+
+    assert not found.result("E17", Line(), linked).not_looked_at
 
 
 def test_e12_is_silent_beyond_a_point(found: Found) -> None:
