@@ -1014,6 +1014,24 @@ def test_e13_of_a_message_between_groups(found: Found) -> None:
     assert [where.group.group.name for where in made[0].compared if where.group] == ["Signal 5"]
 
 
+def test_e13_of_a_long_message(found: Found) -> None:
+    """It is compared with all groups along it: the tenth one describes its last 500 m."""
+    line = Line()
+    steps = line._steps(line.speeds, line.sites[2], 15_000, 1)
+    elements = [{"d_static": at, "v_static": value // 5, "q_front": 0, "differences": []} for at, value in steps]
+    elements[-1].update(v_static=127)
+    right = meaning_mistakes.movement_authority(3)
+    right["packets"] = [{**each, "elements": elements} for each in right["packets"] if each["nid_packet"] != 21]
+    right["packets"][0].pop("elements")
+    assert not of_messages(found, "E13", line, right).found
+    wrong = copy.deepcopy(right)
+    *own, end = wrong["packets"][1]["elements"]
+    fast = {**own[0], "d_static": end["d_static"] - 500, "v_static": 40}
+    wrong["packets"][1]["elements"] = [*own, fast, {**end, "d_static": 500}]
+    (one,) = of_messages(found, "E13", line, wrong).found
+    assert one.location.message and "V_STATIC is 200 km/h from km 27.500 to km 28.000" in one.sentence
+
+
 def test_e13_of_messages_without_profiles_beside(found: Found) -> None:
     """Messages of which most differ, and those that no group is beside, are counted."""
     count = found.result("E13", SHORT).looked_at
