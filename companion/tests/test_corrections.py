@@ -328,7 +328,7 @@ def test_a_correction_may_uncover_another_mistake(run: Run, tmp_path: Path) -> N
 
 
 def test_a_telegram_of_another_group_is_one_entry(run: Run, tmp_path: Path) -> None:
-    """Its own group lacks what its own telegram should say, and an aspect gives two packets 12: no mistakes of its own."""
+    """Its own group lacks what its telegram should say, and aspects give two packets 12: no mistakes of their own."""
 
     def copy_down(cells: List[List[str]]) -> None:
         cells[12][-1] = cells[11][-1]
