@@ -1671,6 +1671,34 @@ def test_e32_of_names_that_are_meant(found: Found) -> None:
     assert not found("E32", Line(signals=4), few)
 
 
+@pytest.mark.parametrize(
+    ("names", "count"),
+    [
+        (("Yellow", "yellow"), 1),
+        (("yellow", "YELLOW"), 1),
+        (("sig 4", "sig4"), 1),
+        (("1 1", "11"), 0),
+        (("y", "Y"), 0),
+        (("yellow", "blue"), 0),
+    ],
+)
+def test_e32_of_two_cases(found: Found, names: Tuple[str, str], count: int) -> None:
+    """Half of the signals have the aspect in another case: one remark names all of them."""
+    here = all_of(
+        *(meaning_mistakes.renamed(f"Signal {number}", YELLOW, names[number % 2]) for number in (1, 2, 3, 4, 5, 6))
+    )
+    made = found("E32", SHORT, here)
+    assert len(made) == count
+    for each in made:
+        assert each.words == (
+            f'3 groups have the aspect "{names[0]}", and 3 "{names[1]}": they differ only in case or blanks; rows 16 '
+            "and 24 too"
+        )
+        assert list(each.rows) == [8] and list(each.aspects) == [names[0]]
+    both = meaning_mistakes.renamed("Signal 3", GREEN, names[0])
+    assert not found("E32", SHORT, all_of(here, both))
+
+
 def test_e32_of_tracks(found: Found) -> None:
     """A track of one group alone, whose name is one letter away from that of the others."""
 

@@ -322,7 +322,9 @@ def _judged_again(checked: Checked, asked: Sequence[Family], options: Options, t
         for rule, result in results_of(line, options, family.rules):
             remarks += result.found
             reasons = {(rule.name, why): count for why, count in result.not_looked_at.items()}
-            yield Answer(list(map(entry_of_remark, result.found)), {rule.name: result.unusually_skipped}, reasons=reasons)
+            yield Answer(
+                list(map(entry_of_remark, result.found)), {rule.name: result.unusually_skipped}, reasons=reasons
+            )
 
 
 def _refused(checked: Checked) -> int:
