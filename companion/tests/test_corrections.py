@@ -328,13 +328,13 @@ def test_a_correction_may_uncover_another_mistake(run: Run, tmp_path: Path) -> N
 
 
 def test_a_telegram_of_another_group_is_one_entry(run: Run, tmp_path: Path) -> None:
-    """Its own group lacks what its own telegram should say, which is no mistake of its own."""
+    """Its own group lacks what its telegram should say, and aspects give two packets 12: no mistakes of their own."""
 
     def copy_down(cells: List[List[str]]) -> None:
         cells[12][-1] = cells[11][-1]
 
     (entry,) = _entries_of(run, _changed(tmp_path / "t.csv", "meaning/both-directions.csv", copy_down))
-    assert entry["rows"] == [14] and entry["rule"] == "F3" and len(entry["folded"]) == 14
+    assert entry["rows"] == [14] and entry["rule"] == "F3" and len(entry["folded"]) == 17
 
 
 def test_a_trial_decodes_only_what_it_changes(

@@ -13,8 +13,10 @@ import pytest
 from cases_of_program import TOP
 from conftest import Run, set_day
 from link_tables import authority, telegram
+from meaning_line import Line
 from telegrams import ALONE, OTHER, SPARE, account, digest
 from test_links import FOLDER
+from test_meaning import written
 
 from balisekit.engine.program import Program, Text
 from balisekit.io import csv_writing
@@ -365,18 +367,30 @@ def test_findings_of_correct_data_come_last(run: Run, tmp_path: Path) -> None:
     ]
 
 
+def test_a_rule_that_compared_nothing_is_not_as_of_most_lines(program: Program, run: Run, tmp_path: Path) -> None:
+    """E24 needs five signals. Of four it says why it compared none of their aspects."""
+    path = written(program, tmp_path / "t.csv", Line(signals=4))
+    short = [line for line in run("check", path)[1] if "(E24)" in line or "by E24" in line]
+    why = "aspects with a name that fewer than five signals have"
+    assert short == [f"not compared by E24: 12 of 12 aspects of signals ({why}: 12)"]
+
+
 def test_what_sound_lines_pass_over_is_one_line(run: Run, tmp_path: Path) -> None:
     """With --all, and in JSON, each rule has its reasons. A rule with another reason always has its own line."""
     path = TOP / "examples/meaning/line.csv"
     short = [line for line in run("check", path)[1] if line.startswith("not compared")]
-    assert short == ["not compared, as of most lines: 3 of 30 ends of authority (E25); --all lists the reasons"]
+    counts = "3 of 30 ends of authority (E12), 3 of 30 authorities (E17), 3 of 30 ends of authority (E25)"
+    assert short == [f"not compared, as of most lines: {counts}; --all lists the reasons"]
     status, out, _ = run("check", path, "--all", "--json", tmp_path / "j.json")
-    full = "not compared by E25: 3 of 30 ends of authority (beyond the last group of the track: 3)"
-    assert status == 0 and [line for line in out if line.startswith("not compared")] == [full]
+    assert status == 0 and [line for line in out if line.startswith("not compared")] == [
+        "not compared by E12: 3 of 30 ends of authority (beyond the last group that gives an authority: 3)",
+        "not compared by E17: 3 of 30 authorities (beyond the last linked group of the track: 3)",
+        "not compared by E25: 3 of 30 ends of authority (beyond the last group of the track: 3)",
+    ]
     rules = json.loads((tmp_path / "j.json").read_text("utf-8"))["rules"]
     assert rules["E25"]["not_looked_at"] == {"beyond the last group of the track": 3}
     cut = TOP / "examples/meaning/mistakes/E30.csv"
-    lines = [line for line in run("check", cut)[1] if line.startswith("not compared")]
+    lines = [line for line in run("check", cut)[1] if line.startswith("not compared by")]
     assert lines == [
         "not compared by E25: 5 of 12 ends of authority (not at a group that packets 5 of its message name: 2, beyond "
         "the last group of the track: 3)"

@@ -37,6 +37,7 @@ from meaning_mistakes_of_groups import FIXED, GREEN, MISTAKES_FOLDER, RED, SHORT
 from test_meaning import written
 
 from balisekit.engine.program import Program
+from balisekit.present.links_text import is_usual
 from balisekit.rules import checking, links, meaning
 from balisekit.rules.chainage import Jump
 from balisekit.rules.line import Line as LineOfTable
@@ -236,13 +237,42 @@ def test_e12_between_groups_by_several_signals(found: Found) -> None:
         links = change(rows, "Signal 3", FIXED, 5)["links"]
         links[:] = [{**links[0], "d_link": 300, "nid_bg": 99}]
 
-    for change_, why, count in (
-        (all_of(*three), ends_between.BETWEEN, 3),
-        (all_of(three[0], links_to_the_end), ends_between.NOT_BEYOND, 1),
-        (all_of(three[0], without_links), ends_between.NOT_BEYOND, 1),
+    for change_, why, count, beyond in (
+        (all_of(*three), ends_between.BETWEEN, 3, 3),
+        (all_of(three[0], links_to_the_end), ends_between.NOT_BEYOND, 1, 3),
+        (all_of(three[0], without_links), ends_between.NOT_BEYOND, 1, 1),  # (without links two are compared there)
     ):
         result = found.result("E12", line, change_)
-        assert not result.found and result.not_looked_at == {why: count}
+        assert not result.found and result.not_looked_at == {why: count, BEYOND["E12"]: beyond}
+
+
+BEYOND = {
+    "E12": "beyond the last group that gives an authority",
+    "E17": "beyond the last linked group of the track",
+    "E25": "beyond the last group of the track",
+}
+
+
+@pytest.mark.parametrize("rule", BEYOND)
+def test_ends_far_beyond_the_line_are_not_as_of_most_lines(found: Found, rule: str) -> None:
+    """An authority that leads 30 km beyond the last signal is counted with a reason that sound lines do not have."""
+    near, line = BEYOND[rule], Line()
+    far = f"farther {near} than any other authority is long"
+    sound = found.result(rule, line)
+    assert dict(sound.not_looked_at) == {near: 3} and is_usual(sound)
+    result = found.result(rule, line, set_in("Signal 15", GREEN, 12, l_endsection=30_000))
+    assert dict(result.not_looked_at) == {near: 2, far: 1} and not is_usual(result) and not result.found
+    assert result.looked_at == sound.looked_at == 27
+
+
+def test_e17_beyond_the_line_if_links_lead_there(found: Found) -> None:
+    """Groups beyond the table might be linked to the end: then nothing of the authority is left out."""
+
+    def linked(rows: List[Row]) -> None:
+        links = change(rows, "Signal 14", FIXED, 5)["links"]
+        links += [{**links[0], "d_link": 1500, "nid_bg": number} for number in (98, 99)]
+
+    assert not found.result("E17", Line(), linked).not_looked_at
 
 
 def test_e12_is_silent_beyond_a_point(found: Found) -> None:
@@ -984,6 +1014,24 @@ def test_e13_of_a_message_between_groups(found: Found) -> None:
     assert [where.group.group.name for where in made[0].compared if where.group] == ["Signal 5"]
 
 
+def test_e13_of_a_long_message(found: Found) -> None:
+    """It is compared with all groups along it: the tenth one describes its last 500 m."""
+    line = Line()
+    steps = line._steps(line.speeds, line.sites[2], 15_000, 1)
+    elements = [{"d_static": at, "v_static": value // 5, "q_front": 0, "differences": []} for at, value in steps]
+    elements[-1].update(v_static=127)
+    right = meaning_mistakes.movement_authority(3)
+    right["packets"] = [{**each, "elements": elements} for each in right["packets"] if each["nid_packet"] != 21]
+    right["packets"][0].pop("elements")
+    assert not of_messages(found, "E13", line, right).found
+    wrong = copy.deepcopy(right)
+    *own, end = wrong["packets"][1]["elements"]
+    fast = {**own[0], "d_static": end["d_static"] - 500, "v_static": 40}
+    wrong["packets"][1]["elements"] = [*own, fast, {**end, "d_static": 500}]
+    (one,) = of_messages(found, "E13", line, wrong).found
+    assert one.location.message and "V_STATIC is 200 km/h from km 27.500 to km 28.000" in one.sentence
+
+
 def test_e13_of_messages_without_profiles_beside(found: Found) -> None:
     """Messages of which most differ, and those that no group is beside, are counted."""
     count = found.result("E13", SHORT).looked_at
@@ -1151,6 +1199,16 @@ def test_e29_of_two_conditions(found: Found) -> None:
     usual = (with_packet(f"Signal {number}", FIXED, condition(5500 - 1500 * number)) for number in (1, 3))
     (one,) = found("E29", SHORT, all_of(*usual, with_packet("Signal 2", FIXED, condition(2600))))
     assert one.location.row and one.location.row.group == "Signal 2"
+
+
+def test_e29_of_two_packets_of_one_message(found: Found) -> None:
+    """They show that there are two conditions, as two elements of one packet do. Two aspects are two messages."""
+    both = with_packet("Signal 3", FIXED, condition(2500)), with_packet("Signal 3", YELLOW, condition(2600))
+    for at in (FIXED, YELLOW, GREEN):
+        assert not found("E29", SHORT, all_of(*both, with_packet("Signal 4", at, condition(1100))))
+    apart = with_packet("Signal 3", GREEN, condition(2500)), with_packet("Signal 3", YELLOW, condition(2600))
+    (one,) = found("E29", SHORT, all_of(*apart))
+    assert rows_named(one) == (12, 13)
 
 
 def kinds(*own: int) -> Any:
@@ -1611,6 +1669,34 @@ def test_e32_of_names_that_are_meant(found: Found) -> None:
         assert not found("E32", line, meaning_mistakes.renamed("Signal 3", line.aspects[1], name))
     few = all_of(meaning_mistakes.renamed("Signal 3", YELLOW, "yelow"), only(lambda row: row.place < 14_400))
     assert not found("E32", Line(signals=4), few)
+
+
+@pytest.mark.parametrize(
+    ("names", "count"),
+    [
+        (("Yellow", "yellow"), 1),
+        (("yellow", "YELLOW"), 1),
+        (("sig 4", "sig4"), 1),
+        (("1 1", "11"), 0),
+        (("y", "Y"), 0),
+        (("yellow", "blue"), 0),
+    ],
+)
+def test_e32_of_two_cases(found: Found, names: Tuple[str, str], count: int) -> None:
+    """Half of the signals have the aspect in another case: one remark names all of them."""
+    here = all_of(
+        *(meaning_mistakes.renamed(f"Signal {number}", YELLOW, names[number % 2]) for number in (1, 2, 3, 4, 5, 6))
+    )
+    made = found("E32", SHORT, here)
+    assert len(made) == count
+    for each in made:
+        assert each.words == (
+            f'3 groups have the aspect "{names[0]}", and 3 "{names[1]}": they differ only in case or blanks; rows 16 '
+            "and 24 too"
+        )
+        assert list(each.rows) == [8] and list(each.aspects) == [names[0]]
+    both = meaning_mistakes.renamed("Signal 3", GREEN, names[0])
+    assert not found("E32", SHORT, all_of(here, both))
 
 
 def test_e32_of_tracks(found: Found) -> None:

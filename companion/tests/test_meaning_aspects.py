@@ -5,7 +5,7 @@ from dataclasses import replace
 from decimal import Decimal
 from functools import partial
 from pathlib import Path
-from typing import Any, List, Optional, Sequence, Tuple
+from typing import Any, Dict, List, Optional, Sequence, Tuple
 
 import pytest
 from conftest import Run
@@ -30,8 +30,14 @@ from meaning_mistakes_of_groups import (
 from test_meaning import remarks, written
 
 from balisekit.engine.program import Program
-from balisekit.rules.rule import Options, Remark, Urgency
-from balisekit.tables import plan as plan_file
+from balisekit.rules import checking
+from balisekit.rules.line import Line as LineOfTable
+from balisekit.rules.meaning import RULES
+from balisekit.rules.meaning.aspect_pairs import NO_ORDER, STAGGERED
+from balisekit.rules.meaning.e24_unlike_namesakes import MAIN
+from balisekit.rules.meaning.stop_names import NO_MAJORITY
+from balisekit.rules.rule import Options, Remark, Result, Urgency
+from balisekit.tables import plan as plan_file, reader
 
 PROFILES = "21 (gradient profile), 27 (international static speed profile)"
 FOUR = Line(signals=6, aspects=(RED, YELLOW, GREEN, "blue"))
@@ -327,6 +333,69 @@ def test_e9_of_stops(program: Program, tmp_path: Path) -> None:
     ]
 
 
+def left_of(program: Program, path: Path, rule: str, *changes: Change, line: Line = SHORT) -> Dict[str, int]:
+    """What a rule has not compared, by the reason. It has found nothing."""
+    result = result_of(program, path, rule, *changes, line=line)
+    assert not result.found
+    return {why: count for why, count in result.not_looked_at.items() if count}
+
+
+def result_of(program: Program, path: Path, rule: str, *changes: Change, line: Line = SHORT) -> Result:
+    """What a rule answers."""
+    table = reader.read(str(written(program, path, line, *changes)))
+    (one,) = [each for each in RULES if each.name == rule]
+    return one.find(LineOfTable.of(checking.check(program, table)), Options())
+
+
+def swapped(signal: int, one: str = RED, other: str = YELLOW) -> Change:
+    """Exchanges all packets of two aspects."""
+
+    def swap(rows: List[Row]) -> None:
+        first, second = (telegram(rows, signal, aspect) for aspect in (one, other))
+        first["packets"], second["packets"] = second["packets"], first["packets"]
+
+    return swap
+
+
+def test_e9_of_stops_below_its_majority(program: Program, tmp_path: Path) -> None:
+    """Red and yellow are exchanged at one of four signals: three are enough, because both contradict them."""
+    made = found(program, tmp_path / "t.csv", "E9", swapped(3), line=Line(signals=4))
+    stops = [each.sentence for each in made if each.sentence.startswith("V_MAIN")]
+    assert len(stops) == 2 and all("in 3 of 4 cases of the table" in each for each in stops)
+    assert stops[0].endswith('it is 0; V_MAIN of "yellow" is 0 here, and above 0 in most cases')
+    assert stops[1].endswith('it is above 0; V_MAIN of "red" is above 0 here, and 0 in most cases')
+
+
+def test_e9_of_groups_without_a_stop(program: Program, tmp_path: Path) -> None:
+    """At 5 of 15 signals no aspect stops trains. If another aspect stops them, they are only counted."""
+    line = Line()
+    running = [packet_with(signal, RED, 12, v_main=8, l_endsection=500) for signal in (2, 5, 8, 11, 14)]
+    made = found(program, tmp_path / "t.csv", "E9", *running, line=line)
+    assert len(made) == 5 and all("in 10 of 15 cases" in each.sentence for each in made)
+    assert all(each.sentence.endswith("it is 0; no aspect of this group has V_MAIN 0") for each in made)
+    stopping = [packet_with(signal, GREEN, 12, v_main=0) for signal in (2, 5, 8, 11)]
+    result = result_of(program, tmp_path / "t.csv", "E9", *stopping, line=line)
+    assert not result.found and result.looked_at == 11
+    assert list(result.not_looked_at.items()) == [(NO_MAJORITY, 4)]
+
+
+def test_e9_counts_what_no_order_shows(program: Program, tmp_path: Path) -> None:
+    """Two of six signals are against the others: no order is known, so that both are counted."""
+    assert left_of(program, tmp_path / "t.csv", "E9", exchanged(3), exchanged(4)) == {NO_ORDER: 2}
+    assert not result_of(program, tmp_path / "t.csv", "E9", exchanged(3)).not_looked_at
+
+
+def test_e9_of_signals_beside_each_other(program: Program, tmp_path: Path) -> None:
+    """Staggered exit signals of two tracks show no order, and are counted."""
+    near = [packet_with(signal, GREEN, 12, l_endsection=1530) for signal in (1, 2, 4, 5, 6)]
+    result = result_of(program, tmp_path / "t.csv", "E9", *near, packet_with(3, GREEN, 12, l_endsection=1470))
+    assert not result.found and dict(result.not_looked_at) == {STAGGERED: 1} and result.looked_at == 5
+    short = [packet_with(signal, YELLOW, 12, l_endsection=150) for signal in (1, 2, 4, 5, 6)]
+    short += [packet_with(signal, GREEN, 12, l_endsection=300) for signal in (1, 2, 4, 5, 6)]
+    short += [packet_with(3, YELLOW, 12, l_endsection=300), packet_with(3, GREEN, 12, l_endsection=150)]
+    assert len(found(program, tmp_path / "t.csv", "E9", *short)) == 1
+
+
 def test_e10(program: Program, tmp_path: Path) -> None:
     """Speeds, and gradients more than 5 ‰ apart. Beyond the last common link nothing is compared."""
     changes = [
@@ -591,6 +660,28 @@ def test_e24_of_speeds(program: Program, tmp_path: Path) -> None:
     caution = [packet_with(signal, YELLOW, 12, v_main=8) for signal in (1, 2, 4, 5, 6)]
     (one,) = found(program, tmp_path / "t.csv", "E24", *caution)
     assert "V_MAIN is 140 km/h [28], and 40 km/h [8] at all 5 other signals" in one.sentence
+
+
+def test_e24_of_speeds_of_several_signals(program: Program, tmp_path: Path) -> None:
+    """Three of 15 are reported, since four times as many have what is usual. Four are counted."""
+    path, line, green = tmp_path / "t.csv", Line(), (2, 5, 8, 11)
+    high = [packet_with(signal, GREEN, 12, v_main=40) for signal in green]
+    made = found(program, path, "E24", *high[:3], line=line)
+    assert [each.aspects for each in made] == [[GREEN]] * 3
+    assert all(each.sentence.endswith("at 12 of 14 other signals they are equal") for each in made)
+    assert left_of(program, path, "E24", *high, line=line) == {MAIN: 4}
+    whole = [packet_with(signal, at, 12, v_main=10) for signal in green[:2] for at in (YELLOW, GREEN)]
+    assert left_of(program, path, "E24", *whole, line=line) == {MAIN: 4}
+    assert not left_of(program, path, "E24", line=line)
+
+
+def test_e24_of_a_speed_too_low_for_any_route(program: Program, tmp_path: Path) -> None:
+    """Each yellow is in on sight. A V_MAIN of 5 km/h is that of no slow route."""
+    mode = raw(80, f"01{0:015b}00{8:07b}{1500:015b}{0:015b}0{0:05b}")
+    usual = [packets_added(signal, YELLOW, mode) for signal in range(1, 7)]
+    (one,) = found(program, tmp_path / "t.csv", "E24", *usual, packet_with(3, YELLOW, 12, v_main=1))
+    assert one.rows == (row_of(3, YELLOW),) and "V_MAIN is 5 km/h [1]" in one.sentence
+    assert left_of(program, tmp_path / "t.csv", "E24", *usual, packet_with(3, YELLOW, 12, v_main=16)) == {MAIN: 1}
 
 
 def test_e24_of_stop_and_go(program: Program, run: Run, tmp_path: Path) -> None:

@@ -423,6 +423,36 @@ def test_e6_names_other_packets_if_asked(program: Program, tmp_path: Path) -> No
     ]
 
 
+@pytest.mark.parametrize(
+    "number, name, changed",
+    [
+        (12, "movement authority of level 1", {"v_main": 24}),
+        (80, "mode profile", raw(80, f"01{100:015b}00{8:07b}{1500:015b}{0:015b}0{0:05b}")),
+        (132, "danger for shunting information", raw(132, "1")),
+        (137, "stop if in staff responsible", raw(137, "1")),
+    ],
+)
+def test_e6_of_two_orders(program: Program, tmp_path: Path, number: int, name: str, changed: Any) -> None:
+    """Of two orders of a red aspect the second one may let trains run. No other rule looks at it."""
+
+    def added(changed: Any) -> Change:
+        def add(rows: List[Row]) -> None:
+            first = {
+                12: change(rows, "Signal 3", RED, 12),
+                80: raw(80, f"01{100:015b}00{4:07b}{1500:015b}{0:015b}0{0:05b}"),
+                132: raw(132, "0"),
+                137: raw(137, "0"),
+            }[number]
+            packets_added(3, RED, *([] if number == 12 else [first]), {**first, **changed})(rows)
+
+        return add
+
+    assert found(program, tmp_path / "t.csv", "E6", [added({})]) == []
+    words = f"a train gets 2 packets {number} ({name}) in nominal direction: nobody knows which of them it uses"
+    assert found(program, tmp_path / "t.csv", "E6", [added(changed)]) == [(row_of(3, RED), words)]
+    assert found(program, tmp_path / "t.csv", "E6", [added({**changed, "q_dir": 0})]) == []
+
+
 def test_e6_names_packet_64_if_asked(program: Program, tmp_path: Path) -> None:
     """It is less sure that only radio sends it."""
     added = packets_added(1, RED, raw(64, ""))

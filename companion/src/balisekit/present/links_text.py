@@ -127,8 +127,8 @@ def not_compared(links: Links) -> Iterator[str]:
 
 
 def is_usual(result: Result) -> bool:
-    """Whether a rule has passed over what it passes over of sound lines too, and nothing else."""
-    return all(why in result.usual for why, count in result.not_looked_at.items() if count)
+    """Whether a rule has compared something, and passed over only what it passes over of sound lines too."""
+    return result.looked_at > 0 and not result.unusually_skipped
 
 
 def not_compared_in_short(links: Links) -> Iterator[str]:

@@ -322,7 +322,9 @@ def _judged_again(checked: Checked, asked: Sequence[Family], options: Options, t
         for rule, result in results_of(line, options, family.rules):
             remarks += result.found
             reasons = {(rule.name, why): count for why, count in result.not_looked_at.items()}
-            yield Answer(list(map(entry_of_remark, result.found)), {rule.name: result.skipped}, reasons=reasons)
+            yield Answer(
+                list(map(entry_of_remark, result.found)), {rule.name: result.unusually_skipped}, reasons=reasons
+            )
 
 
 def _refused(checked: Checked) -> int:
@@ -338,7 +340,7 @@ def _with_causes(checked: Checked, parts: Sequence[Part], again: Again, options:
     if not still_open or line is None:
         return list(parts)
     results = [each for part in parts if part.applied for each in part.applied.results.items()]
-    skipped = {rule.name: each.skipped for rule, each in results}
+    skipped = {rule.name: each.unusually_skipped for rule, each in results}
     reasons = {(rule.name, why): count for rule, each in results for why, count in each.not_looked_at.items()}
     before = Answer([entry for part in own for entry in part.entries], skipped, _refused(checked), reasons)
     found = explained(Evidence(checked, line, options, still_open), before, again, SUGGESTIONS)

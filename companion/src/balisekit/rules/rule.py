@@ -223,6 +223,11 @@ class Result(NamedTuple):
         return sum(self.not_looked_at.values())
 
     @property
+    def unusually_skipped(self) -> int:
+        """How many of these for a reason that sound lines do not have."""
+        return sum(count for why, count in self.not_looked_at.items() if why not in self.usual)
+
+    @property
     def is_empty(self) -> bool:
         """Whether there was something to look at, and nothing was looked at."""
         return self.skipped > 0 and self.looked_at == 0 and not self.is_optional

@@ -44,11 +44,11 @@ class Answer(NamedTuple):
 
     entries: Sequence[Entry] = ()
     skipped: Mapping[str, int] = {}
-    """How many things each rule has not looked at."""
+    """How many things each rule has not looked at, for reasons that sound lines do not have."""
     refused: int = 0
     """How many telegrams and groups were refused or left out."""
     reasons: Mapping[Tuple[str, str], int] = {}
-    """The same as `skipped` by rule and reason."""
+    """How many things each rule has not looked at, by rule and reason."""
 
 
 class Explained(NamedTuple):

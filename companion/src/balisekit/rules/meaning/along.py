@@ -105,6 +105,20 @@ def passed_over(decoded: Decoded, is_meant: Callable[[Packet], bool]) -> Counter
     return Counter({(id(packet), passage.direction): passage.lacks for packet, passage in unplaced}.values())
 
 
+def beyond(last: str) -> str:
+    """Why an authority is not compared that ends beyond the last group of a kind."""
+    return f"beyond the last {last}"
+
+
+def counted_beyond(last: str, apart: Sequence[int], longest: int) -> Counter[str]:
+    """How many authorities end beyond the last group of a kind, and so far beyond it.
+
+    Sound lines have such ends too, but none that is farther beyond it than the longest other authority is long.
+    """
+    far = f"farther {beyond(last)} than any other authority is long"
+    return Counter(beyond(last) if each <= longest else far for each in apart)
+
+
 def is_authority(packet: Packet) -> bool:
     """Whether it is a packet 12 with a V_MAIN above 0, or a packet 15."""
     return packet.number == 15 or packet.number == 12 and bool(packet.form["v_main"])

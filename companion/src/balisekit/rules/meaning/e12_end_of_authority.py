@@ -20,7 +20,7 @@ of groups. It rests on SUBSET-026, 3.8 and 7.4.2.
   must also name a group beyond the end.
 - An authority leads to no group if D_LINK and the kilometres disagree by more than 200 m about the place of the group.
 - An end away from groups is reported only between the first and the last group that gives an authority for this track
-  and direction.
+  and direction. Beyond the last one it is counted as not compared, unless it leads to a group or others end beside it.
 - An end more than 200 m from each group is not reported if V_LOA is above 0.
 - An end away from groups is not reported if packets 5 name a group there whose place on this track the table does not
   show. That group is not in the table, has no kilometre, or is on another track.
@@ -53,7 +53,7 @@ from __future__ import annotations
 
 from collections import Counter
 from decimal import Decimal
-from typing import Dict, Iterator, List, Optional, Sequence, Tuple
+from typing import Dict, Iterator, List, NamedTuple, Optional, Sequence, Set, Tuple
 
 from balisekit.etcs.variables import metres
 from balisekit.rules.decoded import Decoded
@@ -63,6 +63,8 @@ from balisekit.rules.location import BEHIND_POINT, BaliseGroup
 from balisekit.rules.meaning.along import (
     End,
     Lane,
+    beyond,
+    counted_beyond,
     ends_of,
     is_authority,
     is_named,
@@ -71,47 +73,76 @@ from balisekit.rules.meaning.along import (
     parts,
     passed_over,
 )
-from balisekit.rules.meaning.ends_between import ends_between, inside_the_line, near_a_group
+from balisekit.rules.meaning.ends_between import Key, ends_between, inside_the_line, near_a_group
 from balisekit.rules.meaning.words import at_place, merged, source
 from balisekit.rules.rule import Options, Remark, Result, Rule, Urgency
 
 NEAR, STANDS, ALONE = 2000, 500, 200
 """In decimetres: how near a group is to its end, how near one has to be, and how near ends without links are."""
+LAST = "group that gives an authority"
+
+
+class Ends(NamedTuple):
+    """The ends of authority whose places are known."""
+
+    linked: Dict[Tuple[Lane, BaliseGroup], List[End]]
+    """Those that lead to a group."""
+    unlinked: Dict[Lane, List[End]]
+    """Those of messages without a packet 5."""
+    away: List[Tuple[Lane, End]]
+    """Those that are not at the group to which they lead."""
+    lengths: Dict[Key, int]
+    """How long the authorities are."""
+    left: Counter[str]
+    """How many others there are, by the reason."""
 
 
 def find(line: Line, options: Options) -> Result:
     """Compares the ends that lead to one group, and each end with the groups."""
-    decoded, looked_at = line.decoded, 0
-    linked: Dict[Tuple[Lane, BaliseGroup], List[End]] = {}
-    unlinked: Dict[Lane, List[End]] = {}
-    ends: List[Tuple[Lane, End]] = []  # (those that are not at the group to which they lead)
-    beyond: Counter[str] = Counter()
-    for end in ends_of(decoded):
-        if leaves(options, decoded, end.passage, end.place):
-            beyond[BEHIND_POINT] += 1
-            continue
-        lane, looked_at = lane_of(end.passage), looked_at + 1
-        target = _target(end)
-        is_at = target is not None and target.place is not None and abs(target.place - end.place) <= STANDS
-        if not is_at and not is_named(decoded, options, end, STANDS):
-            ends.append((lane, end))
-        if target is not None:
-            linked.setdefault((lane, target), []).append(end)
-        elif not end.passage.of(5):
-            unlinked.setdefault(lane, []).append(end)
-    found: Dict[Tuple[int, str], Remark] = {}
-    for (_, target), some in linked.items():
+    decoded, found = line.decoded, {}  # type: Decoded, Dict[Key, Remark]
+    ends = _ends(decoded, options)
+    compared: Set[Key] = set()
+    for target, some in _together(ends):
         found.update((end.key, remark) for end, remark in _compare(decoded, options, some, target))
-    for some in unlinked.values():
-        for part in parts(sorted(some, key=lambda each: each.place), ALONE):
-            found.update((end.key, remark) for end, remark in _compare(decoded, options, part))
-    inside = [end for end in inside_the_line(decoded, ends) if end.key not in found]
+        compared.update(end.key for end in some if target or len(some) > 1)
+    all_inside, beyond_it = inside_the_line(decoded, ends.away)
+    inside = [end for end in all_inside if end.key not in found]
     for end in inside:
         found.update((end.key, remark) for remark in near_a_group(decoded, options, end))
     away = ends_between(decoded, options, inside)
     found.update(away.found)
-    lacks, looked_at = passed_over(decoded, is_authority), looked_at - sum(away.left.values())
-    return Result.of_places(merged(found.values()), looked_at, lacks, {**beyond, **away.left})
+    apart = {key: each for key, each in beyond_it.items() if key not in compared}
+    longest = max((each for key, each in ends.lengths.items() if key not in apart), default=0)
+    left = away.left + counted_beyond(LAST, list(apart.values()), longest)
+    lacks, looked_at = passed_over(decoded, is_authority), len(ends.lengths) - sum(left.values())
+    result = Result.of_places(merged(found.values()), looked_at, lacks, ends.left + left)
+    return result._replace(usual=frozenset({beyond(LAST)}))
+
+
+def _ends(decoded: Decoded, options: Options) -> Ends:
+    """Where the authorities end, and where they lead."""
+    ends = Ends({}, {}, [], {}, Counter())
+    for end in ends_of(decoded):
+        if leaves(options, decoded, end.passage, end.place):
+            ends.left[BEHIND_POINT] += 1
+            continue
+        lane, target = lane_of(end.passage), _target(end)
+        ends.lengths[end.key] = end.distance
+        is_at = target is not None and target.place is not None and abs(target.place - end.place) <= STANDS
+        if not is_at and not is_named(decoded, options, end, STANDS):
+            ends.away.append((lane, end))
+        if target is not None:
+            ends.linked.setdefault((lane, target), []).append(end)
+        elif not end.passage.of(5):
+            ends.unlinked.setdefault(lane, []).append(end)
+    return ends
+
+
+def _together(ends: Ends) -> Iterator[Tuple[Optional[BaliseGroup], Sequence[End]]]:
+    """The ends that are compared with each other, and the group to which they lead."""
+    yield from ((target, some) for (_, target), some in ends.linked.items())
+    for some in ends.unlinked.values():
+        yield from ((None, part) for part in parts(sorted(some, key=lambda each: each.place), ALONE))
 
 
 def _target(end: End) -> Optional[BaliseGroup]:

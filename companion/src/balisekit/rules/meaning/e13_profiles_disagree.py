@@ -12,9 +12,9 @@ differ if V_STATIC is not the same, and gradients differ if they are more than 5
 - If both groups differ from equally many neighbours, the remark is on the group in rear. It is on the group ahead if
   only the values of that group look like a usual mistake, such as a wrong Q_GDIR. Of a group and a message, it is on
   the message.
-- The profiles of a message 3 are compared with the profiles of the group from which they count, and of the groups
-  ahead. If the group from which they count has no profile, the next group in rear whose profile reaches there is
-  compared.
+- The profiles of a message 3 are compared with the profiles of the group from which they count, and of all groups ahead
+  up to their end. If the group from which they count has no profile, the next group in rear whose profile reaches there
+  is compared.
 - Q_FRONT is compared if two profiles let V_STATIC rise at one place, from the same speed to the same higher speed. The
   two profiles can also be of two aspects of one group.
 - The most frequent Q_FRONT at this place counts as right. If two values of Q_FRONT are equally frequent there, the

@@ -9,7 +9,8 @@ another linked group follows. The rule rests on SUBSET-026, 3.4.4.
 - A linked group follows if it has Q_LINK 1, and packets for that direction other than 0, 145, 254 and 255. It can be up
   to 50 m beyond the end of the authority.
 - A remark names the first five groups without a link, and counts the others.
-- Nothing is reported if the authority ends beyond the last such group of its track and way.
+- Nothing is reported if the authority ends beyond the last such group of its track and way. It is counted as not
+  compared, unless packets 5 lead to its end.
 - Nothing is reported if the last link of a packet 5 of its message is NID_BG 16,383. Then a group with repositioning
   information names the next groups.
 - Nothing is reported if the group with the packet 12, or a group before it, has a refused telegram. Only groups at most
@@ -46,7 +47,19 @@ from balisekit.rules.decoded import Decoded
 from balisekit.rules.facts import group_words, sender
 from balisekit.rules.line import Line
 from balisekit.rules.location import NOT_KNOWN, BaliseGroup
-from balisekit.rules.meaning.along import FAR, End, ends_of, is_authority, lane_of, leaves, passed_over, rear, unread_of
+from balisekit.rules.meaning.along import (
+    FAR,
+    End,
+    beyond,
+    counted_beyond,
+    ends_of,
+    is_authority,
+    lane_of,
+    leaves,
+    passed_over,
+    rear,
+    unread_of,
+)
 from balisekit.rules.meaning.reach import LESS, Reach, lanes_of_links
 from balisekit.rules.meaning.words import merged
 from balisekit.rules.passages import GroupData, Passage
@@ -56,6 +69,7 @@ from balisekit.tables.names import counted, listed
 
 NAMED = 5
 """How many groups without a link are named. The others are counted."""
+LAST = "linked group of the track"
 
 
 def find(line: Line, options: Options) -> Result:
@@ -75,7 +89,20 @@ def find(line: Line, options: Options) -> Result:
         return Result([Remark("E17", ends[0].passage.at(), sentence, facts=facts)], len(ends), lacks)
     lanes, known = lanes_of_links(decoded), [end for end in ends if not _may_be_linked(line, end)]
     found = [remark for end in known for remark in _look_at(decoded, options, lanes[lane_of(end.passage)], end)]
-    return Result(merged(found), len(known), lacks)
+    beyond_it = {end.key: _beyond(lanes[lane_of(end.passage)], end) for end in known}
+    apart = [each for each in beyond_it.values() if each > 0]
+    longest = max((end.distance for end in known if beyond_it[end.key] <= 0), default=0)
+    left = counted_beyond(LAST, apart, longest)
+    result = Result(merged(found), len(known) - len(apart), {**lacks, **left}, is_optional=not any(lacks.values()))
+    return result._replace(usual=frozenset({beyond(LAST)}))
+
+
+def _beyond(lane: Reach, end: End) -> int:
+    """How far an authority ends beyond the last linked group and beyond the links, of which nothing is known there."""
+    way = end.passage.way or 0
+    reach = lane.at((end.passage.place(0) or 0) * way)
+    is_known = reach >= end.place * way - LESS or not lane.groups
+    return 0 if is_known else end.place * way - lane.groups[-1]
 
 
 def _may_be_linked(line: Line, end: End) -> bool:

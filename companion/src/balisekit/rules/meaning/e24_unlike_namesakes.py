@@ -9,9 +9,10 @@ other items are limits. The rule rests on SUBSET-026, 3.8 and 4.4.
 - Values: T_OL, D_STARTOL, V_RELEASEOL, V_RELEASEDP, T_SECTIONTIMER, D_SECTIONTIMERSTOPLOC, T_ENDTIMER,
   D_ENDTIMERSTARTLOC, M_MAMODE and V_MAMODE are compared. A value is reported if at least four other signals have this
   variable at the aspect, and all of them have one value. No aspect of another signal may have the reported value.
-- V_MAIN: a V_MAIN above 0 is reported in two cases. In both cases at least four other signals must have a V_MAIN above
-  0 at this aspect. In the first case V_MAIN is the greatest V_STATIC at all other signals, but not at this one. In the
-  second case all other signals have one V_MAIN, and this signal has another one.
+- V_MAIN: a V_MAIN above 0 is reported in two cases. In the first case V_MAIN is the greatest V_STATIC at most signals,
+  but not at this one. In the second case most signals have one V_MAIN, and this signal has another one. For each signal
+  that differs, at least four others with a V_MAIN above 0 at this aspect must have what is usual. Of the two cases, the
+  one with fewer differing signals counts.
 - "Go" at a stop aspect: Q_SRSTOP of packet 137 or Q_ASPECT of packet 132 is "go" beside a V_MAIN of 0. The aspect is
   reported if only this signal has "go", and another signal has "stop" at its aspect of the same name.
 - "Stop" at a proceed aspect: Q_SRSTOP is "stop" beside a V_MAIN above 0. The aspect is reported if only this signal has
@@ -28,13 +29,15 @@ other items are limits. The rule rests on SUBSET-026, 3.8 and 4.4.
 - Values that are not reported: a value beside a D_OL or D_DP that no other signal has is not compared. A D_STARTOL that
   is equal to L_ENDSECTION is not compared either. Values and orders to stop or go that differ at several signals are
   counted as not compared.
-- V_MAIN that is not reported: a V_MAIN that is too low is reported only if another proceed aspect of the signal has its
-  usual V_MAIN. In the first case V_MAIN is not reported if another aspect of the signal has the same V_MAIN, or if all
-  other signals have it. In the second case a low V_MAIN is not reported if it is equal to the greatest V_STATIC. A
-  speed that E2 reports is not reported again.
+- V_MAIN that is not reported: a V_MAIN that is too low is reported only if one signal differs, and another proceed
+  aspect of it has its usual V_MAIN. In the first case V_MAIN is not reported if another aspect of the signal has the
+  same V_MAIN, or if all other signals have it. In the second case a low V_MAIN is not reported if it is equal to the
+  greatest V_STATIC. A speed that E2 reports is not reported again.
 - Slow routes: an aspect with a packet 80 might lead to a slow route, so that its V_MAIN or V_MAMODE is lower than
-  usual. The lower value is not reported if a V_STATIC of the aspect is equal to it, or is not above the usual speed.
-  V_MAIN is not compared at an aspect with a packet 80 if less than half of the aspects of its name have one.
+  usual. The lower value is not reported if a V_STATIC of the aspect is equal to it, or is not above the usual speed. A
+  V_MAIN below half of each V_STATIC is that of no route. V_MAIN is not compared at an aspect with a packet 80 if less
+  than half of the aspects of its name have one.
+- The aspects whose V_MAIN differs from what is usual, but is not reported, are counted as not compared.
 
 Why it matters. At worst the train gets wrong information. At an aspect without packets the train runs on with the
 packets of the signal before, so that a red signal does not stop it. Or the train gets a speed or a time of another
@@ -69,19 +72,10 @@ from balisekit.rules.facts import counted, group_words
 from balisekit.rules.line import Line
 from balisekit.rules.location import Location
 from balisekit.rules.meaning.lacking_packets import Unlike, lacking_packets
-from balisekit.rules.meaning.namesakes import (
-    INFILL,
-    LEAST,
-    Case,
-    Cases,
-    Odd,
-    namesakes_of,
-    odd_speeds,
-    odd_values,
-    signals_of,
-)
+from balisekit.rules.meaning.namesakes import INFILL, LEAST, Case, Cases, Odd, namesakes_of, odd_values, signals_of
 from balisekit.rules.meaning.stop_and_go import contrary_orders
 from balisekit.rules.meaning.stops import stops_without_order
+from balisekit.rules.meaning.unlike_speeds import unlike_speeds
 from balisekit.rules.rule import Options, Remark, Result, Rule, Urgency
 from balisekit.tables.names import quoted
 
@@ -89,6 +83,7 @@ RARE = "aspects with a name that fewer than five signals have"
 TOO_MANY = "aspects that lack a packet which at least half of the signals have, as too many others do"
 ORDERS = "aspects whose packet 132 or 137 contradicts V_MAIN, as at several signals"
 VALUES = "aspects with a value of packet 12 or 80 that differs at several signals"
+MAIN = "aspects with a V_MAIN of their own, of a whole signal, of a slow route or of several signals"
 """Why aspects are not compared."""
 
 
@@ -97,11 +92,12 @@ def find(line: Line, options: Options) -> Result:
     cases, few, passed_over = namesakes_of(line.decoded)
     known = {name: own for name, own in cases.items() if signals_of(own) >= LEAST}
     rare = sum(len(own) for some in (cases, few) for name, own in some.items() if name not in known)
-    speeds = (each for each in odd_speeds(known) if each.sent * 5 <= options.greatest_speed)
+    unlike = unlike_speeds(known)
+    speeds = (each for each in unlike.odd if each.sent * 5 <= options.greatest_speed)
     ordered = stops_without_order(line.decoded).aspects
     packets, orders, values = lacking_packets(known, few, ordered), contrary_orders(cases), odd_values(cases)
     parts = [*packets.parts, *map(_of_value, (*values.odd, *orders.odd, *speeds))]
-    reasons = (values.left, VALUES), (packets.left, TOO_MANY), (orders.left, ORDERS)
+    reasons = (values.left, VALUES), (packets.left, TOO_MANY), (orders.left, ORDERS), (unlike.left, MAIN)
     left = {id(case): why for some, why in reasons for case in some}
     compared = {id(case) for own in known.values() for case in own}
     counts = Counter(why for each, why in left.items() if each in compared)

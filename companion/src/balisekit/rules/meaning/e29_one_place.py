@@ -15,7 +15,7 @@ SUBSET-026, 3.12.1 and 7.4.2.
 - Two messages might state different kinds at the same place with the same length. The kind that most groups state
   counts as right, and the other kind is reported. Two aspects of one group are two messages here.
 - Two kinds are not reported if one message of the table has both of them at one place of this track and direction. Two
-  places or lengths are not reported if one packet has both conditions.
+  places or lengths are not reported if one message has both conditions, in one packet or in two.
 - Places and lengths may differ by `--tolerance` (default 1 m) and rounding.
 - A group within the condition might send only the rest of the condition. Such a packet has the distance 0, and is not
   reported if the end of the condition is the same.
@@ -101,15 +101,13 @@ def _is_trusted(number: int, options: Options) -> bool:
 
 
 def _compare(line: Line, options: Options, some: Sequence[Condition], near: int) -> Iterator[Remark]:
-    """Those that differ from what most groups say, if no packet has both. Of two that differ one is reported."""
+    """Those that differ from what most groups say, if no message has both. Of two that differ one is reported."""
     firsts: Dict[Tuple[int, int], Condition] = {}
     groups: Dict[Tuple[int, int], Set[int]] = {}
-    packets: Dict[int, List[Condition]] = {}
     for each in some:
         firsts.setdefault(each.says, each)
         groups.setdefault(each.says, set()).add(id(each.passage.group or each.passage.message))
-        packets.setdefault(id(each.packet), []).append(each)
-    several = [own for own in packets.values() if len(own) > 1]
+    several = list(_of_messages(some)) if len(firsts) > 1 else []
     order = {says: (-len(groups[says]), place) for place, says in enumerate(firsts)}
     for each in some:
         better = [one for one in firsts.values() if order[one.says] < order[each.says]]
@@ -120,8 +118,20 @@ def _compare(line: Line, options: Options, some: Sequence[Condition], near: int)
                 yield _remark(line, each, usual)
 
 
+def _of_messages(some: Sequence[Condition]) -> Iterator[Sequence[Condition]]:
+    """The conditions of each message that has several: a packet of a fixed balise is in those of all aspects."""
+    senders: Dict[int, List[Condition]] = {}
+    for each in some:
+        senders.setdefault(id(each.passage.message or each.passage.group), []).append(each)
+    for own in senders.values():
+        first = own[0].passage
+        messages = [first] if first.message or not first.group else first.group.passages
+        for said in ({id(packet) for packet in each.said} for each in messages if len(own) > 1):
+            yield [each for each in own if id(each.packet) in said]
+
+
 def _has_both(line: Line, options: Options, own: Sequence[Condition], one: Condition, other: Condition) -> bool:
-    """Whether a packet has both conditions, so that they are two."""
+    """Whether a message has both conditions, so that they are two."""
     like_one, like_other = (
         {index for index, each in enumerate(own) if _agree(line, options, each, wanted)} for wanted in (one, other)
     )

@@ -1,15 +1,19 @@
 """E32: name that looks typed wrongly.
 
 What it says. One group has an aspect or a track whose name differs in one letter from a name that at least three other
-groups have. The rule is balisekit's own, because no standard is about the names in a table.
+groups have. Or groups have aspects whose names differ only in upper and lower case or in blanks. The rule is
+balisekit's own, because no standard is about the names in a table.
 - The rule compares the names of aspects with each other, and the names of tracks with each other.
 - Two names differ in one letter if one letter is missing, added or replaced, or if two neighbouring letters are
   exchanged.
 - The first and the last letter of the word with this difference must be the same in both names. The word must have at
   least four letters in both names.
-- All digits and other characters must be the same in both names. Upper and lower case do not count.
-- The rule reports a name only if one group has it. A name is not reported if its group also has the name of the other
-  groups.
+- All digits and other characters must be the same in both names. Upper and lower case do not count for this.
+- The rule reports a name with another letter only if one group has it. A name is not reported if its group also has the
+  name of the other groups.
+- Aspects that differ only in case or blanks are reported however many groups have them. One remark names all groups
+  with the rarer name. If both are equally frequent, the name that is first in the table counts as right.
+- Such aspects are not reported if their names have one letter, or if one group has both. Blanks between digits count.
 
 Why it matters. No effect on a train is known. Rules E7 to E9, E15 and E24 compare aspects by their names, and most
 other rules compare groups of one track. So a wrong name hides mistakes of its group.
@@ -17,10 +21,10 @@ other rules compare groups of one track. So a wrong name hides mistakes of its g
 Example. Before (`examples/meaning/mistakes/E32.csv`): one aspect of Signal 3 is called "yelow", and 5 groups have the
 aspect "yellow". After: all 6 groups have the aspect "yellow".
 
-When it is a false alarm. The rule assumes that nobody chose two names that differ in one letter inside a word. Two
-words of this kind might have two meanings, such as in another language.
+When it is a false alarm. The rule assumes that nobody chose two names that differ in one letter inside a word, or only
+in case or blanks. Two words of this kind might have two meanings, such as in another language.
 
-Usual cause. The name was typed by hand.
+Usual cause. The name was typed by hand, or the table was put together from two lists.
 
 How to correct it. Write the name as the other groups have it.
 
@@ -33,16 +37,18 @@ from __future__ import annotations
 import re
 from collections import Counter
 from decimal import Decimal
-from typing import Dict, Iterator, List, Optional, Sequence, Set, Tuple
+from typing import Dict, Iterator, List, Sequence, Set, Tuple
 
 from balisekit.rules.line import Line
 from balisekit.rules.passages import GroupData
 from balisekit.rules.rule import Options, Remark, Result, Rule, Urgency
+from balisekit.tables.model import Row
 from balisekit.tables.names import quoted
 
 LEAST, SHORTEST = 3, 4
 """The fewest groups that show what a name should be, and the fewest letters of a word."""
-WORDS = re.compile(r"[^\W\d_]+")
+WORDS, BLANKS = re.compile(r"[^\W\d_]+"), re.compile(r"(?<!\d)\s+|\s+(?!\d)")
+"""What is compared of a name, and what is not."""
 
 
 def find(line: Line, options: Options) -> Result:
@@ -50,7 +56,7 @@ def find(line: Line, options: Options) -> Result:
     groups = line.decoded.groups
     aspects = [{aspect.name for aspect in data.group.group.aspects} for data in groups]
     tracks = [{data.group.track} for data in groups]
-    found = [remark for kind, names in (("aspect", aspects), ("track", tracks)) for remark in _of(kind, groups, names)]
+    found = [*_of("aspect", groups, aspects), *_of("track", groups, tracks), *_in_two_cases(groups, aspects)]
     return Result(sorted(found, key=lambda each: each.location.order), len(groups))
 
 
@@ -66,7 +72,27 @@ def _of(kind: str, groups: Sequence[GroupData], names: Sequence[Set[str]]) -> It
             others = usual.get(_rest(name), ()) if counts[name] == 1 else ()
             wanted = next((each for each in others if each not in own and _is_slip(name, each)), None)
             if wanted is not None:
-                yield _remark(kind, data, name, wanted, counts[wanted])
+                words = (
+                    f"no other group has the {kind} {quoted(name)}, and {counts[wanted]} groups have {quoted(wanted)}"
+                )
+                yield _remark(kind, data, name, f"{words}: it looks typed wrongly", counts[wanted])
+
+
+def _in_two_cases(groups: Sequence[GroupData], names: Sequence[Set[str]]) -> Iterator[Remark]:
+    """The aspects that differ from a more frequent one only in case or blanks: one remark for all groups that have it."""
+    counts = Counter(name for own in names for name in sorted(own))
+    alike: Dict[str, List[str]] = {}
+    for name in counts:
+        alike.setdefault(BLANKS.sub("", name).casefold(), []).append(name)
+    several = (sorted(some, key=lambda name: -counts[name]) for key, some in alike.items() if len(key) > 1)
+    for usual, *others in several:
+        for name in others:
+            first, *more = [data for data, own in zip(groups, names) if name in own]
+            if not any({usual, name} <= own for own in names):
+                have = "1 group has" if counts[name] == 1 else f"{counts[name]} groups have"
+                words = f"{have} the aspect {quoted(name)}, and {counts[usual]} {quoted(usual)}"
+                made = _remark("aspect", first, name, f"{words}: they differ only in case or blanks", counts[usual])
+                yield made._replace(also=[data.location(_rows("aspect", data, name)[0]) for data in more])
 
 
 def _rest(name: str) -> Tuple[object, ...]:
@@ -99,13 +125,16 @@ def _common(one: str, other: str) -> int:
     return next((place for place in range(shortest) if one[place] != other[place]), shortest)
 
 
-def _remark(kind: str, data: GroupData, name: str, wanted: str, count: int) -> Remark:
-    group = data.group.group
-    aspects: Optional[Sequence[str]] = [name] if kind == "aspect" else None
-    rows = [row.number for row in group.each_row if aspects is None or row.aspect == name]
-    others = f"{count} groups have {quoted(wanted)}"
-    words = f"no other group has the {kind} {quoted(name)}, and {others}: it looks typed wrongly"
-    return Remark("E32", data.location(), words, None, {"groups": Decimal(count)}, (), None, rows, aspects or ())
+def _remark(kind: str, data: GroupData, name: str, sentence: str, count: int) -> Remark:
+    """A remark on the name of a group, beside another name that some groups have."""
+    rows = [row.number for row in _rows(kind, data, name)]
+    aspects: Sequence[str] = [name] if kind == "aspect" else ()
+    return Remark("E32", data.location(), sentence, None, {"groups": Decimal(count)}, (), None, rows, aspects)
+
+
+def _rows(kind: str, data: GroupData, name: str) -> Sequence[Row]:
+    """The rows of a group that have a name."""
+    return [row for row in data.group.group.each_row if kind == "track" or row.aspect == name]
 
 
 RULE = Rule("E32", "groups", __doc__ or "", find, Urgency.RULE_ONLY)

@@ -1,29 +1,30 @@
 """E6: packets of one message.
 
-What it says. A balise has a packet that only radio or loops send, or a late packet 0, or a train gets two packets 5 at
-once. The rule also reports a message 3 with a second packet 15 or with a packet 12. The rule rests on SUBSET-026, 7.4,
-8.4.4 and 8.7.
+What it says. A balise has a packet that only radio or loops send, or a late packet 0. Or a train gets two packets 5 at
+once, or two different packets 12, 80, 132 or 137. The rule also reports a message 3 with a second packet 15 or with a
+packet 12. The rule rests on SUBSET-026, 7.4, 8.4.4 and 8.7.
 - Only radio sends the packets 15, 57, 58, 63 and 140, and only loops send packet 13.
 - A packet 0 in a balise is late if another packet of the telegram comes before it.
-- A train gets two packets 5 at once if both are in one message and hold in one direction. Packets before and after a
-  packet 136 are counted separately.
+- A train gets two packets at once if both are in one message and hold in one direction. The message of a group is made
+  of all its balises. Packets before and after a packet 136 are counted separately.
+- Two packets 5 are reported even if they are equal. Two equal packets 12, 80, 132 or 137 are not reported.
 - A message 3 must have exactly one authority, which is a packet 15. The program refuses a message 3 without a packet
   15.
-- With `--rules E6` the rule also reports two different packets of one kind in one direction. The kinds are 2, 3, 12,
-  16, 21, 27, 41, 45, 46, 80, 131, 132, 136, 137, 141 and 254.
+- With `--rules E6` the rule also reports two different packets of other kinds in one direction. These kinds are 2, 3,
+  16, 21, 27, 41, 45, 46, 131, 136, 141 and 254.
 - With `--rules E6` the rule also reports a packet 64 in a balise. It then also reports these packets in a message 3: 0,
   6, 13, 16, 46, 90, 132 to 137, 145 and 254.
 
 Why it matters. At worst the train gets wrong information. The train might use either of two packets, or reject the
-message. A train does not use a packet of a balise that only radio sends. It looks for a packet 0 only at the beginning
-of a telegram.
+message. So a red aspect with a second packet 12 might not stop the train. A train does not use a packet of a balise
+that only radio sends. It looks for a packet 0 only at the beginning of a telegram.
 
 Example. Before (`examples/meaning/mistakes/E6.csv`): at "yellow" of Signal 3 (km 13.003) a train gets 2 packets 5 in
 nominal direction, in rows 10 and 12. After: only row 10 has a packet 5.
 
 When it is a false alarm. Never, unless a project sends two packets 5 for one direction on purpose. For example, one
 packet 5 is fixed and the other one is switched, or two balises have the same packet 5. With `--rules E6`, packets of
-one kind might differ on purpose.
+the other kinds might differ on purpose.
 
 Usual cause. Telegrams were put together from parts that both have the packet. Or a packet was copied from a message of
 the other kind.
@@ -56,7 +57,9 @@ NOT_BY_BALISES = {**dict.fromkeys((15, 57, 58, 63, 140), "radio sends"), 13: "lo
 """Who else sends these packets."""
 IF_ASKED = {64: "radio sends"}
 """The same of a packet that is named only if it is asked for."""
-ONCE = frozenset({2, 3, 12, 16, 21, 27, 41, 45, 46, 80, 131, 132, 136, 137, 141, 254})
+TWICE = frozenset({LINKING, AUTHORITY, 80, 132, 137})
+"""Those of which a train gets two at once: linking, and orders of which only one can hold."""
+ONCE = frozenset({2, 3, 16, 21, 27, 41, 45, 46, 131, 136, 141, 254})
 """Those that are named twice only if it is asked for."""
 MOVEMENT_AUTHORITY = 3
 NOT_BY_RADIO = (0, 6, 13, 16, 46, 90, 132, 133, 134, 135, 136, 137, 145, 254)
@@ -66,7 +69,7 @@ def find(line: Line, options: Options) -> Result:
     """Looks at each packet, and at what is said in each direction."""
     asked = options.asks_for("E6")
     found = [*_of_balises(line, asked), *_authorities(line)]
-    found += _twice(line, ONCE | {LINKING} if asked else frozenset({LINKING}))
+    found += _twice(line, ONCE | TWICE if asked else TWICE)
     found += _not_by_radio(line, *NOT_BY_RADIO) if asked else ()
     return Result(found, len(line.decoded.passages))
 
@@ -143,5 +146,5 @@ def _several_remark(passage: Passage, packets: List[Packet]) -> Remark:
     return made._replace(compared=[passage.at(packet) for packet in packets[:-1]])
 
 
-MORE = "two different packets of one kind in a message, a packet 64 in a balise, and packets that no message 3 has"
+MORE = "two different packets of more kinds in a message, a packet 64 in a balise, and packets that no message 3 has"
 RULE = Rule("E6", "passages", __doc__ or "", find, Urgency.WRONG_INFORMATION, optional_part=MORE)

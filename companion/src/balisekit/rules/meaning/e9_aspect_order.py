@@ -8,6 +8,8 @@ before green at most signals. The rule rests on SUBSET-026, 3.8.
 - Most cases means at least three cases, and at least four of every five. A case in which both aspects end at the same
   distance shows no order and does not count.
 - Three cases against one are enough if the two ends are more than 200 m apart in all four cases.
+- Two ends against the order are not reported if they might be at signals beside each other. Then they are at most 200 m
+  apart, and less than half as far as the shorter one is long. Their group is counted as not compared.
 - Two aspects that end at the same distance are reported only if at least four of every five cases show the usual order.
   For this, the cases in which both aspects end at the same distance count too.
 - Two aspects with equal ends are not reported, and their case does not count, if the aspect that mostly leads farther
@@ -18,6 +20,11 @@ before green at most signals. The rule rests on SUBSET-026, 3.8.
 - The rule also reports an aspect with V_MAIN 0 if aspects of this name have a V_MAIN above 0 in most cases. In the same
   way it reports a V_MAIN above 0 if the name has V_MAIN 0 in most cases. Here a case is a group that has this aspect in
   one direction.
+- Twice as many cases are enough for V_MAIN, at least three, if the group itself contradicts the aspect. It does so if
+  another of its aspects has a V_MAIN above 0 instead of 0, or 0 instead of above 0. It also does so if all its aspects
+  have a packet 12 with a V_MAIN above 0, so that none stops trains.
+- If too few cases show the order of two aspects, or whether V_MAIN is 0, the groups against most others are counted as
+  not compared.
 - Aspects with a refused telegram do not count.
 
 Why it matters. At worst the train gets wrong information. At yellow the train gets the authority of green, and might
@@ -44,13 +51,24 @@ How sure. 86 %, by practice and memory of the standard.
 from __future__ import annotations
 
 from collections import Counter
-from typing import Dict, Iterator, List, Optional, Sequence, Tuple
+from typing import Dict, Iterator, List, Optional, Sequence, Set, Tuple
 
 from balisekit.etcs.variables import metres
-from balisekit.rules.facts import counted, sender
 from balisekit.rules.line import Line
-from balisekit.rules.meaning.sent import by_culprit, distance, kmh, speed
-from balisekit.rules.meaning.siblings import LEAST, Case, Counts, Pair, against_the_order, cases_of, is_usual, pairs_of
+from balisekit.rules.meaning.aspect_pairs import (
+    LEAST,
+    NO_ORDER,
+    STAGGERED,
+    Case,
+    Counts,
+    Left,
+    Pair,
+    against_the_order,
+    cases_of,
+    pairs_of,
+)
+from balisekit.rules.meaning.sent import by_culprit, distance
+from balisekit.rules.meaning.stop_names import NO_MAJORITY, stops
 from balisekit.rules.rule import Options, Remark, Result, Rule, Urgency
 from balisekit.tables.names import listed, quoted
 
@@ -63,17 +81,23 @@ def find(line: Line, options: Options) -> Result:
     cases = cases_of(line)
     groups = {id(own[0].passage.group) for own in cases}
     counts = Counter(case.passage.aspect for own in cases for case in own)
-    looked_at = {id(own[0].passage.group) for own in cases if any(counts[case.passage.aspect] >= LEAST for case in own)}
-    rare = {RARE: len(groups - looked_at)} if groups - looked_at else {}
-    return Result([*_ends(options, cases), *_stops(cases)], len(looked_at), rare, is_optional=True)
+    known = {id(own[0].passage.group) for own in cases if any(counts[case.passage.aspect] >= LEAST for case in own)}
+    left: Left = {why: set() for why in (NO_MAJORITY, NO_ORDER, STAGGERED)}
+    found = [*_ends(options, cases, left), *stops(cases, left)]
+    lacks = {RARE: len(groups - known)}
+    seen: Set[int] = set()
+    for why, own in left.items():
+        lacks[why] = len(own - seen)
+        seen |= own
+    return Result(found, len(known - seen), {why: count for why, count in lacks.items() if count}, is_optional=True)
 
 
-def _ends(options: Options, cases: Sequence[Sequence[Case]]) -> Iterator[Remark]:
+def _ends(options: Options, cases: Sequence[Sequence[Case]], left: Left) -> Iterator[Remark]:
     """Authorities against the order that most cases show."""
     counts: Counts = {}
     wrong: Dict[Tuple[int, str], List[Pair]] = {}
-    for pair in against_the_order(pairs_of(options, cases), counts):
-        wrong.setdefault((id(pair.first.passage.group), pair.first.passage.direction), []).append(pair)
+    for pair in against_the_order(pairs_of(options, cases), counts, left):
+        wrong.setdefault((pair.group, pair.first.passage.direction), []).append(pair)
     for some in wrong.values():
         yield from _of_group(some, counts)
 
@@ -127,32 +151,6 @@ def _remark(pair: Pair, words: str, urgency: Optional[Urgency] = None) -> Remark
     aspects = [case.passage.aspect for case in cases]
     marks = [(case.packet.row, where.direction, case.end) for case in cases]
     return Remark("E9", where, words, None, values, (), urgency, rows, aspects, marks)
-
-
-def _stops(cases: Sequence[Sequence[Case]]) -> Iterator[Remark]:
-    """V_MAIN 0 or above 0 against what most aspects of this name have."""
-    by_name: Dict[str, List[Case]] = {}
-    for own in cases:
-        for case in own:
-            by_name.setdefault(case.passage.aspect, []).append(case)
-    for name, some in by_name.items():
-        for odd, usual in ((0, 1), (1, 0)):
-            few = [case for case in some if bool(case.packet.form["v_main"]) == bool(odd)]
-            count = len(some) - len(few)
-            if few and is_usual(count, len(some)):
-                fact = counted(sender(case.passage) for case in some if bool(case.packet.form["v_main"]) == bool(usual))
-                yield from (_stop(case, fact, count, len(some), "above 0" if usual else "0") for case in few)
-
-
-def _stop(case: Case, fact: str, count: int, of_how_many: int, usual: str) -> Remark:
-    main = case.packet.form["v_main"]
-    words = (
-        f"V_MAIN of the aspect {quoted(case.passage.aspect)} is {speed(main)}, and in {count} of {of_how_many} cases "
-        f"of the table it is {usual}"
-    )
-    where = case.passage.at(case.packet)
-    values, marks = {"v_main_kmh": kmh(main)}, [(where.row, where.direction, 0)]
-    return Remark("E9", where, words, values=values, marks=marks, facts=[fact])
 
 
 RULE = Rule("E9", "groups with several aspects", __doc__ or "", find, Urgency.WRONG_INFORMATION)

@@ -7,7 +7,7 @@ from typing import AbstractSet, Any, Dict, Iterator, List, NamedTuple, Optional,
 from balisekit.etcs.variables import Around, value_words
 from balisekit.rules.decoded import Decoded
 from balisekit.rules.location import Identity
-from balisekit.rules.meaning.along import is_authority
+from balisekit.rules.meaning.along import beyond, counted_beyond, is_authority
 from balisekit.rules.meaning.orders import is_now
 from balisekit.rules.meaning.sent import tolerance
 from balisekit.rules.passages import GroupData, Passage
@@ -62,15 +62,15 @@ class End(NamedTuple):
         return "absent" if form is None else value_words(key, form[key], around) or str(form[key])
 
 
-UNKNOWN, WITH_MODES, FAR, BEYOND, INFILL = (
+UNKNOWN, WITH_MODES, FAR, INFILL = (
     "by a message whose group is not in the table",
     "with a packet 80",
     "not at a group that packets 5 of its message name",
-    "beyond the last group of the track",
     "behind a packet 136",
 )
 """Why an authority is not compared."""
-USUAL = frozenset({WITH_MODES, BEYOND, INFILL})
+LAST = "group of the track"
+USUAL = frozenset({WITH_MODES, beyond(LAST), INFILL})
 """The reasons that sound lines have too."""
 
 
@@ -78,6 +78,7 @@ def ends_at_groups(decoded: Decoded) -> Tuple[Sequence[Sequence[End]], "Counter[
     """The authorities that end at a group, together those at one group, and how many are not compared, and why."""
     found: Dict[Tuple[Identity, bool], List[End]] = {}
     left: Counter[str] = Counter()
+    past: List[int] = []
     ordering = [data for data in decoded.senders.get(LEVELS, ()) if any(map(is_now, _orders(data)))]
     borders = {data.group.identity for data in ordering}
     for passage in decoded.passages:
@@ -86,17 +87,20 @@ def ends_at_groups(decoded: Decoded) -> Tuple[Sequence[Sequence[End]], "Counter[
         ends = [end for packet in own for end in _end(passage, packet, borders)] if why == FAR else []
         at_group = {id(end.packet) for end in ends}
         far = [packet for packet in own if id(packet) not in at_group]
-        left.update(BEYOND if why == FAR and _is_beyond(decoded, passage, packet) else why for packet in far)
+        apart = [_beyond(decoded, passage, packet) for packet in far] if why == FAR else [0] * len(far)
+        past += [each for each in apart if each > 0]
+        left[why] += sum(each <= 0 for each in apart)
         left[INFILL] += sum(map(is_authority, passage.infill))
         for end in ends:
             found.setdefault((end.link.identity, end.link.nominal), []).append(end)
-    return list(found.values()), +left
+    longest = max((end.packet.end for some in found.values() for end in some), default=0)
+    return list(found.values()), +left + counted_beyond(LAST, past, longest)
 
 
-def _is_beyond(decoded: Decoded, passage: Passage, packet: Packet) -> bool:
-    """Whether an authority ends beyond all groups of its track, so that no group could be named at its end."""
+def _beyond(decoded: Decoded, passage: Passage, packet: Packet) -> int:
+    """How far an authority ends beyond all groups of its track, so that no group could be named at its end."""
     place, way, places = passage.place(packet.end), passage.way, decoded.places.get(passage.track, ())
-    return place is not None and way is not None and bool(places) and max(way * each for each in places) < way * place
+    return 0 if place is None or way is None or not places else way * place - max(way * each for each in places)
 
 
 def _orders(data: GroupData) -> Iterator[Packet]:

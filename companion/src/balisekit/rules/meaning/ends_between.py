@@ -27,7 +27,7 @@ class Between(NamedTuple):
     """What is found, by the packet and its direction, and how many such ends are passed over, and why."""
 
     found: Dict[Key, Remark]
-    left: Mapping[str, int]
+    left: Counter[str]
 
 
 def ends_between(decoded: Decoded, options: Options, ends: Sequence[End]) -> Between:
@@ -98,13 +98,21 @@ def _remark(decoded: Decoded, end: End, count: int, fact: str) -> Remark:
     return Remark("E12", end.passage.at(end.packet), sentence, group, values, facts=[group_words(group), fact])
 
 
-def inside_the_line(decoded: Decoded, ends: Sequence[Tuple[Lane, End]]) -> Iterator[End]:
-    """The ends between the first and the last group that gives an authority for their track and way."""
+def inside_the_line(decoded: Decoded, ends: Sequence[Tuple[Lane, End]]) -> Tuple[Sequence[End], Mapping[Key, int]]:
+    """The ends between the first and the last group that gives an authority for their track and way.
+
+    Of the ends beyond the last one it gives how far beyond it they are.
+    """
     extents = extents_of(decoded) if ends else {}
+    inside: List[End] = []
+    apart: Dict[Key, int] = {}
     for lane, end in ends:
         low, high = extents.get(lane, NOWHERE)
         if low <= end.place <= high:
-            yield end
+            inside.append(end)
+        elif lane in extents:
+            apart[end.key] = (end.place - high) if lane[1] == 1 else (low - end.place)
+    return inside, {key: each for key, each in apart.items() if each > 0}
 
 
 def near_a_group(decoded: Decoded, options: Options, end: End) -> Iterator[Remark]:

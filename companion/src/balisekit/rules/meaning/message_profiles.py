@@ -13,8 +13,6 @@ from balisekit.rules.rule import Options
 
 Pair = Tuple[Profiles, Profiles, int]
 """The profiles in rear, those ahead, and from where on they are compared."""
-NEAR = 8
-"""How many groups before and after a message are looked at."""
 MANY = 4
 """The fewest messages that show whether messages have profiles of their own."""
 MOST = "of a message, of which most differ from the groups"
@@ -36,31 +34,45 @@ def beside_groups(decoded: Decoded, number: int) -> Beside:
     found: List[Sequence[Pair]] = []
     left: Counter[str] = Counter()
     lanes = lanes_of(decoded)[number]
-    begins = {key: [each.begin for each in lane] for key, lane in lanes.items()} if decoded.messages else {}
+    made = {key: _Lane.of(lane) for key, lane in lanes.items()} if decoded.messages else {}
     for passage in decoded.messages:
         for packet in passage.of(number):
             if passage.lacks or passage.group is None:
                 left[passage.lacks] += 1
                 continue
             own = Profiles(passage.group, passage.way or 0, [(passage, packet)], False)
-            lane = lane_of(passage)
-            some = list(_pairs(lanes.get(lane, ()), begins.get(lane, ()), own))
+            some = list(_pairs(made.get(lane_of(passage), _Lane.of(())), own))
             found += [some] if some else []
             left[LONELY] += not some
     return Beside(found, +left)
 
 
-def _pairs(lane: Sequence[Profiles], begins: Sequence[int], own: Profiles) -> Iterator[Pair]:
+class _Lane(NamedTuple):
+    """The profiles of the groups of a track and way, in the order of passing."""
+
+    profiles: Sequence[Profiles]
+    begins: Sequence[int]
+    longest: int
+    """How far the longest one reaches."""
+
+    @classmethod
+    def of(cls, lane: Sequence[Profiles]) -> _Lane:
+        """The lane with what is asked of it often."""
+        return cls(lane, [each.begin for each in lane], max((each.reach - each.begin for each in lane), default=0))
+
+
+def _pairs(lane: _Lane, own: Profiles) -> Iterator[Pair]:
     """A message with the group from which it counts, or one in rear of it, and with the next ones ahead."""
-    index = bisect_left(begins, own.begin)
+    index = bisect_left(lane.begins, own.begin)
     covered = own.begin
-    if index == len(lane) or lane[index].begin != own.begin:
-        rear = next((each for each in lane[max(index - NEAR, 0) : index][::-1] if each.reach > own.begin), None)
+    if index == len(lane.begins) or lane.begins[index] != own.begin:
+        first = bisect_left(lane.begins, own.begin - lane.longest)
+        rear = next((each for each in lane.profiles[first:index][::-1] if each.reach > own.begin), None)
         if rear is not None:
             yield rear, own, own.begin
             covered = rear.reach
-    for ahead in lane[index : index + NEAR]:
-        if ahead.begin >= own.reach or covered >= own.reach:
+    for ahead in lane.profiles[index : bisect_left(lane.begins, own.reach)]:
+        if covered >= own.reach:
             break
         if ahead.reach > covered:
             yield own, ahead, covered

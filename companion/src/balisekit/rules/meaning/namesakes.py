@@ -7,7 +7,6 @@ from typing import Any, Collection, Dict, Iterator, List, Mapping, NamedTuple, O
 from balisekit.etcs.geometry import DIRECTIONS
 from balisekit.etcs.variables import Around, value_words, variable_name
 from balisekit.rules.decoded import Decoded
-from balisekit.rules.meaning.sent import speed
 from balisekit.rules.passages import GroupData
 from balisekit.rules.telegrams import SPEEDS, Packet
 
@@ -235,7 +234,7 @@ def odd_values(cases: Cases) -> Differing:
             if usual is None or signals_of([each.case for each in own]) < LEAST:
                 continue
             odd = [each for each in own if each.compared != most]
-            odd = [each for each in odd if not _is_slow_route(each.case, key, each.sent, usual.sent)]
+            odd = [each for each in odd if not is_slow_route(each.case, key, each.sent, usual.sent)]
             if signals_of([each.case for each in odd]) == 1 and not _is_elsewhere(odd, compared):
                 others = at_signals(*agreeing(by_name[name], odd[0].case.signal, usual))
                 for each in odd:
@@ -304,62 +303,13 @@ def _is_of_a_place(value: Value, alone: Set[Tuple[str, int]]) -> bool:
     return bool(alone) and not alone.isdisjoint(own)
 
 
-def _is_slow_route(case: Case, key: str, sent: int, usual: int) -> bool:
-    """Whether a low V_MAIN or V_MAMODE may be that of a slow route on which a train is in another mode."""
+def is_slow_route(case: Case, key: str, sent: int, usual: int) -> bool:
+    """Whether a low V_MAIN or V_MAMODE may be that of a slow route on which a train is in another mode.
+
+    A V_MAIN below half of each V_STATIC is that of no route.
+    """
     if case.first(MODES) is None or key not in ("v_main", "v_mamode") or sent >= usual:
         return False
-    speeds = case.speeds
-    return sent in speeds or usual < NATIONAL and min(speeds, default=NATIONAL) <= usual
-
-
-def _is_alone_with_mode(case: Case, own: Sequence[Case]) -> bool:
-    """Whether an aspect has a packet 80, and less than half of the aspects of this name have one."""
-    return case.first(MODES) is not None and 2 * sum(each.first(MODES) is not None for each in own) < len(own)
-
-
-def odd_speeds(cases: Cases) -> Sequence[Odd]:
-    """The V_MAIN that differ from what is usual at their aspect.
-
-    Those that restrict a whole signal are left out. So are those that only differ from their speed profile, and that
-    another aspect of the signal has too: then it is the profile that differs. An aspect with a mode profile is not
-    compared with those that have none.
-    """
-    moving = {name: [case for case in own if case.speed] for name, own in cases.items()}
-    moving = {name: [case for case in own if not _is_alone_with_mode(case, own)] for name, own in moving.items()}
-    odd = [each for own in moving.values() for each in _odd_speeds(own)]
-    odd = [each for each in odd if not _is_slow_route(each.case, each.key, each.sent, each.usual)]
-    speeds: Dict[Tuple[int, str], List[int]] = {}
-    for own in moving.values():
-        for case in own:
-            speeds.setdefault(case.signal, []).append(case.speed)
-    signals = [each.case.signal for each in odd]
-    return [
-        each
-        for each in odd
-        if (each.usual != each.case.of_profile or speeds[each.case.signal].count(each.sent) == 1)
-        and (each.sent > each.usual or signals.count(each.case.signal) == 1 < len(speeds[each.case.signal]))
-    ]
-
-
-def _odd_speeds(cases: Sequence[Case]) -> Iterator[Odd]:
-    """The V_MAIN of one signal that are not the greatest V_STATIC, or the speed, that they are at all others."""
-    rest = signals_of(cases) - 1
-    others = at_signals(rest)
-    own = [case for case in cases if case.speed != case.of_profile]
-    if rest >= LEAST - 1 and signals_of(own) == 1:
-        usual = {case.speed for case in cases if case.speed == case.of_profile}
-        for case in own:
-            packet = case.first(AUTHORITY)
-            if packet and case.of_profile and usual != {case.speed}:
-                words = f"V_MAIN is {speed(case.speed)} and the greatest V_STATIC {speed(case.of_profile)}: {others}"
-                yield Odd(case, packet, "v_main", f"{words} they are equal", case.speed, case.of_profile)
-        return
-    counts = Counter(case.speed for case in cases)
-    most = max(counts, key=counts.__getitem__, default=0)
-    apart = [case for case in cases if case.speed != most]
-    if rest >= LEAST - 1 and own and signals_of(apart) == 1:
-        for case in apart:
-            packet = case.first(AUTHORITY)
-            if packet and (case.speed > most or case.speed != case.of_profile):
-                words = f"V_MAIN is {speed(case.speed)}, and {speed(most)} {others}"
-                yield Odd(case, packet, "v_main", words, case.speed, most)
+    speeds, lowest = case.speeds, min(case.speeds, default=NATIONAL)
+    is_low = usual < NATIONAL and lowest <= usual and (key != "v_main" or 2 * sent >= lowest)
+    return sent in speeds or is_low
