@@ -1065,6 +1065,41 @@ def test_e27_of_borders(found: Found, second: Any, words: str) -> None:
     assert all(rows_named(each) == (14, 10) for each in made)
 
 
+@pytest.mark.parametrize(
+    "packets, rows",
+    [
+        ([(1, announcement_by_radio(5500)), (2, announcement_by_radio(5000))], [(6, 2)]),
+        (
+            [(1, announcement_by_radio(8500)), (2, announcement_by_radio(4000)), (3, announcement_by_radio(2500))],
+            [(2, 6)],
+        ),
+        ([(1, announcement_by_radio(5500)), (4, announcement_by_radio(32_767))], [(2, 14)]),
+        ([(1, announcement_by_radio(4500)), (4, announcement_by_radio(32_767))], []),
+        ([(1, announcement_by_radio(4500)), (3, announcement_by_radio(0)), (4, announcement_by_radio(0))], [(10, 2)]),
+        ([(1, announcement_by_radio(4500)), (4, announcement_by_radio(0)), (6, announcement_by_radio(0))], []),
+        ([(1, announcement_by_radio(2000)), (4, announcement_by_radio(2000)), (3, session())], []),
+        ([(1, announcement_by_radio(2000)), (4, announcement_by_radio(2000)), (3, session(centre=2))], [(14, 2)]),
+    ],
+)
+def test_e27_of_far_borders(found: Found, packets: Sequence[Tuple[int, Any]], rows: Sequence[Tuple[int, ...]]) -> None:
+    """Packets 131 for one RBC have one place, however far, unless trains have another RBC in between."""
+    made = found("E27", SHORT, all_of(*(with_packet(f"Signal {number}", FIXED, each) for number, each in packets)))
+    assert [rows_named(each) for each in made] == rows and all("the border is at" in each.sentence for each in made)
+
+
+def test_e27_of_another_track(found: Found) -> None:
+    """A border beyond a route to another track may be on that track: it is counted."""
+
+    def to_track_2(rows: List[Row]) -> None:
+        for row in rows:
+            row.track = "2" if row.group in ("Signal 4", "Signal 5") else "1"
+        announcements = [(1, announcement_by_radio(5500)), (6, announcement_by_radio(2000))]
+        all_of(*(with_packet(f"Signal {number}", FIXED, each) for number, each in announcements))(rows)
+
+    result = found.result("E27", SHORT, to_track_2)
+    assert result.found == [] and result.not_looked_at["another track"] == 1
+
+
 def test_e28(found: Found) -> None:
     """A packet of its own direction, unless another group speaks to these trains, or it is one that others look at."""
     alone = with_packet("Signal 3", FIXED, session(direction=0))

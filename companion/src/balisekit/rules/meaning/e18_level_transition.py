@@ -57,11 +57,10 @@ from typing import Iterator, Optional, Sequence, Tuple
 from balisekit.etcs.variables import metres
 from balisekit.rules.decoded import Decoded
 from balisekit.rules.line import Line
-from balisekit.rules.meaning.along import parts, unread_of
+from balisekit.rules.meaning.along import leads_elsewhere, parts, unread_of
 from balisekit.rules.meaning.orders import NEAR, Order, orders_of, unplaced_orders, without_direction
 from balisekit.rules.meaning.words import at_place, merged, source
 from balisekit.rules.rule import Options, Remark, Result, Rule, Urgency
-from balisekit.tables.chainage import apart
 
 Unknown = Sequence[Tuple[str, Optional[int]]]
 """Tracks and places of groups that may order a level."""
@@ -86,13 +85,7 @@ def find(line: Line, options: Options) -> Result:
 
 def _leaves(decoded: Decoded, order: Order) -> str:
     """Why packets 5 of an aspect with an announcement leave its track before its place, or nothing."""
-    data, distance = order.passage.group, abs(order.place - (order.passage.place(0) or 0))
-    if order.is_now or data is None:
-        return ""
-    own = (each for each in data.passages if each.direction == order.passage.direction)
-    links = (link for passage in own if order.packet in passage.said for link in passage.links)
-    tracks = {link.target.track for link in links if link.target and link.total <= distance}
-    return next(filter(None, (apart(data.group.track, track) for track in sorted(tracks))), "")
+    return "" if order.is_now else leads_elsewhere(decoded, order.passage, order.packet, order.place)
 
 
 def _usual(orders: Sequence[Order]) -> Order:
