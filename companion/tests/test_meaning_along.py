@@ -1153,7 +1153,11 @@ def crossing(distance: int, length: int = 20) -> Any:
         (condition(2500), condition(1002), 0),
         (condition(2500), condition(1150), 1),
         (condition(2500), condition(1000, 250), 1),
-        (condition(2500), condition(1250), 0),  # (more than 200 m apart)
+        (condition(2500), condition(1250), 1),  # (more than 200 m apart, and in one section)
+        (condition(2500), condition(1250, 350), 0),
+        (condition(2500, 300, 2), condition(1250, 300, 2), 0),  # (places to sound the horn)
+        (condition(2500), condition(1900), 0),  # (beyond the next signal)
+        (condition(1200), condition(200), 0),  # (in rear of the second signal)
         (condition(2500), condition(1150, 300, 3), 0),  # (another kind)
         (condition(1400, 300), condition(0, 200), 0),  # (the rest of it)
         (condition(1400, 300), condition(0, 150), 1),
@@ -1183,9 +1187,24 @@ def test_e29_of_two_conditions(found: Found) -> None:
     two = raw(68, f"010{elements}{1:05b}{100:015b}{50:015b}{9:04b}")
     sent = with_packet("Signal 3", FIXED, two), with_packet("Signal 4", FIXED, condition(1100, 50))
     assert not found("E29", SHORT, all_of(*sent))
+    second = with_packet("Signal 3", FIXED, condition(2600, 50))
+    several = (with_packet("Signal 3", FIXED, condition(2500, 50)), with_packet("Signal 4", FIXED, condition(1100, 50)))
+    assert len(found("E29", SHORT, all_of(*several))) == 1 and not found("E29", SHORT, all_of(*several, second))
     usual = (with_packet(f"Signal {number}", FIXED, condition(5500 - 1500 * number)) for number in (1, 3))
     (one,) = found("E29", SHORT, all_of(*usual, with_packet("Signal 2", FIXED, condition(2600))))
     assert one.location.row and one.location.row.group == "Signal 2"
+
+
+def test_e29_of_far_places(found: Found) -> None:
+    """A group states another place than the groups in rear of it. Two groups, or one telegram, show two conditions."""
+    usual = [with_packet(f"Signal {number}", FIXED, condition(7000 - 1500 * number)) for number in (1, 2)]
+    far = with_packet("Signal 3", FIXED, condition(4500))
+    (one,) = found("E29", SHORT, all_of(*usual, far))
+    assert rows_named(one) == (10, 2) and "is at km 17.500 (4500 m from the group) for 300 m, and by" in one.sentence
+    assert not found("E29", SHORT, all_of(*usual, far, with_packet("Signal 4", FIXED, condition(3000))))
+    assert not found("E29", SHORT, all_of(*usual, far, with_packet("Signal 3", FIXED, condition(2500))))
+    assert not found("E29", SHORT, all_of(*usual, with_packet("Signal 5", FIXED, condition(1500))))
+    assert not found("E29", SHORT, all_of(usual[1], with_packet("Signal 1", FIXED, condition(7500))))
 
 
 def kinds(*own: int) -> Any:
