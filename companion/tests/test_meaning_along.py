@@ -40,7 +40,7 @@ from balisekit.engine.program import Program
 from balisekit.rules import checking, links, meaning
 from balisekit.rules.chainage import Jump
 from balisekit.rules.line import Line as LineOfTable
-from balisekit.rules.meaning import e22_temporary_restriction, ends_between, message_profiles
+from balisekit.rules.meaning import e22_temporary_restriction, ends_between, message_profiles, opposite_restrictions
 from balisekit.rules.rule import ALL, Options, Remark, Result, Urgency
 from balisekit.tables import messages as messages_file, plan as plan_file, reader
 
@@ -1297,7 +1297,18 @@ def revocation(number: int, direction: int = 1) -> Any:
     [
         ([restriction(7, 700, 200, 40)], [revocation(7)], ""),
         ([], [revocation(7)], ""),
-        ([restriction(255, 700, 200, 40)], [revocation(7)], ""),
+        (
+            [restriction(255, 700, 200, 40)],
+            [revocation(7)],
+            "which nothing can revoke, although the packet 66 in row 14",
+        ),
+        ([restriction(255, 700, 200, 40)] * 2, [revocation(7)], ""),
+        ([restriction(255, 700, 200, 40)], [revocation(7, 0)], ""),
+        (
+            [restriction(255, 700, 200, 40), restriction(7, 900, 200, 40)],
+            [revocation(8)],
+            "packet 66 in row 14 revokes 8",
+        ),
         ([], [revocation(255)], "NID_TSR is 255, and nothing can revoke a restriction with this number"),
         ([restriction(7, 700, 200, 40)], [revocation(8)], "NID_TSR is 8, and no packet 65 of the table has it"),
         ([restriction(7, 700, 200, 40)], [revocation(7, 0)], "only packets 65 for trains of the other direction"),
@@ -1409,6 +1420,88 @@ def test_e22_of_one_restriction(found: Found) -> None:
     ]
     (one,) = found("E22", SHORT, all_of(second, third, *twin))
     assert "is 7, and 9 by Signal 4" in one.sentence
+
+
+def in_reverse(number: int, begin: int, length: int, speed: int, group: str = "Signal R4") -> Change:
+    """A restriction of this number for trains towards lower kilometres, which begins at this place in metres."""
+
+    def add(rows: List[Row]) -> None:
+        place = next(row.place for row in rows if row.group == group)
+        with_packet(group, FIXED, restriction(number, place - begin, length, speed))(rows)
+
+    return add
+
+
+@pytest.mark.parametrize(
+    "number, begin, length, speed, words",
+    [
+        (7, 14_500, 500, 40, ""),
+        (7, 14_501, 501, 40, ""),
+        (8, 14_600, 500, 40, ""),
+        (7, 12_000, 500, 40, ""),  # (elsewhere)
+        (
+            7,
+            14_600,
+            500,
+            40,
+            "the restriction with NID_TSR 7 is from km 14.100 to km 14.600 with 40 km/h, and for trains",
+        ),
+        (
+            7,
+            14_500,
+            600,
+            40,
+            "is from km 13.900 to km 14.500 with 40 km/h, and for trains of the other direction from km",
+        ),
+        (7, 14_500, 500, 50, "km 14.000 to km 14.500 with 40 km/h by Signal 2 (km 11.500), row"),
+    ],
+)
+def test_e22_of_both_directions(found: Found, number: int, begin: int, length: int, speed: int, words: str) -> None:
+    """A restriction is one stretch with one speed for trains of both directions."""
+    made = found("E22", BOTH, all_of(RESTRICTED, in_reverse(number, begin, length, speed)))
+    assert len(made) == bool(words) and all(words in each.sentence for each in made)
+    assert all(each.location.row and each.location.row.group == "Signal R4" for each in made)
+
+
+def test_e22_of_numbers_by_direction(found: Found) -> None:
+    """Four restrictions that agree show that the fifth one is elsewhere. Two that differ are counted."""
+    line = Line(signals=15, both=True)
+    agreeing = [
+        change_
+        for number, group in ((1, 5), (2, 7), (3, 9), (4, 11))
+        for change_ in (
+            with_packet(f"Signal {group}", FIXED, restriction(number, 1000, 500, 40)),
+            in_reverse(number, 10_000 + 1500 * (group - 1) + 1500, 500, 40, "Signal R15"),
+        )
+    ]
+    assert not found("E22", line, all_of(RESTRICTED, *agreeing))
+    far = in_reverse(7, 13_000, 500, 40, "Signal R15")
+    (one,) = found("E22", line, all_of(RESTRICTED, *agreeing, far))
+    assert "is from km 12.500 to km 13.000 with 40 km/h" in one.sentence
+    second = with_packet("Signal 3", FIXED, restriction(9, 1000, 500, 40)), in_reverse(9, 14_700, 500, 40, "Signal R4")
+    result = found.result("E22", BOTH, all_of(RESTRICTED, in_reverse(7, 14_600, 500, 40), *second))
+    assert not result.found and result.not_looked_at == {opposite_restrictions.OPPOSITE: 4}
+
+
+@pytest.mark.parametrize(
+    "distance, length, speed, count",
+    [
+        (1000, 500, 40, 0),
+        (1100, 500, 40, 1),
+        (1000, 500, 50, 1),
+        (1000, 600, 40, 1),
+        (1100, 600, 40, 0),
+        (1300, 500, 40, 0),
+    ],
+)
+def test_e22_without_a_number(found: Found, distance: int, length: int, speed: int, count: int) -> None:
+    """Two groups give one restriction with NID_TSR 255 otherwise. A telegram with both has two."""
+    second = with_packet("Signal 2", FIXED, restriction(255, 2500, 500, 40))
+    third = restriction(255, distance, length, speed)
+    made = found("E22", SHORT, all_of(second, with_packet("Signal 3", FIXED, third)))
+    assert len(made) == count
+    both = with_packet("Signal 3", FIXED, third, restriction(255, 1000, 500, 40))
+    assert not found("E22", SHORT, all_of(second, both))
 
 
 def test_e22_of_packets_with_numbers_of_their_own(found: Found) -> None:

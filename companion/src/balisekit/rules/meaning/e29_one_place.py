@@ -10,8 +10,8 @@ SUBSET-026, 3.12.1 and 7.4.2.
   track, and for trains that run the same way.
 - For changes to one traction system (packet 39) and level crossings with one NID_LX (packet 88) the limit is 2 km
   instead of 200 m.
-- Two conditions farther apart look like one too, if they have the same kind and length, and only one group states one of
-  them. All groups that state either of them must be in rear of both, and no telegram may have both. Then one of two
+- Two conditions farther apart look like one too, if they have the same kind and length, and only one group states one
+  of them. All groups that state either of them must be in rear of both, and no telegram may have both. Then one of two
   things must hold. Either several groups state the other condition, the first of them in rear of this group. Or the
   conditions begin at most 2 km apart, with no group for these trains between them. Big metal masses (packet 67) and
   places to sound the horn (M_TRACKCOND 2) are excepted, because a track may have several that are alike.
@@ -34,9 +34,8 @@ has it at km 15.500, both for 300 m. After: both have it at km 15.500.
 
 When it is a false alarm. The rule assumes that conditions of one kind within 200 m are one condition. Two short
 conditions might follow each other, and each group might send only one of them. The same holds for equal conditions of
-one section. It assumes that all packets state the
-condition exactly. A packet might state a longer condition on purpose, to be on the safe side. {leaving} {kilometres}
-{missing} {one way}
+one section. It assumes that all packets state the condition exactly. A packet might state a longer condition on
+purpose, to be on the safe side. {leaving} {kilometres} {missing} {one way}
 
 Usual cause. A distance was not generated again for the second group, or the condition was moved and one group was
 forgotten.
