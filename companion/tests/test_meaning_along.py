@@ -1021,6 +1021,30 @@ def test_e26(found: Found) -> None:
     assert one.sentence == "its message has no packet 12 or 15"
 
 
+@pytest.mark.parametrize(
+    "group, level, words",
+    [
+        ("Border", 0, ""),
+        ("Signal 5", 2, ""),  # (in rear of the border)
+        ("Signal 6", 2, ""),  # (more than 500 m beyond it)
+        ("Border", 2, "the levels are level 1, and packet 41 of Border (km 16.700), row 22, has level 0 at km 16.700"),
+    ],
+)
+def test_e18_of_packets_46(found: Found, group: str, level: int, words: str) -> None:
+    """A conditional order at a border has the levels of the packets 41 for the border."""
+    aspect = "" if group == "Border" else FIXED
+    made = found("E18", BORDER, with_packet(group, aspect, raw(46, f"{level:03b}{0:05b}")))
+    assert [each.sentence for each in made] == ([words] if words else [])
+    assert all(rows_named(each) == (22,) for each in made)
+
+
+def test_e18_of_a_packet_46_that_announcements_support(found: Found) -> None:
+    """The announcements have its level: only they are reported, beside the order."""
+    announced = [set_in_item(f"Signal {number}", FIXED, 41, "transitions", 0, m_leveltr=2) for number in (4, 5)]
+    made = found("E18", BORDER, all_of(*announced, with_packet("Border", "", raw(46, f"{2:03b}{0:05b}"))))
+    assert [rows_named(each)[0] for each in made] == [14, 18]
+
+
 SAME = session(1, "0123456789")
 
 
