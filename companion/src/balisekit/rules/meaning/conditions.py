@@ -1,7 +1,7 @@
 """Track conditions at their places, by raw packets. For E29."""
 from __future__ import annotations
 
-from typing import AbstractSet, Any, Dict, Iterator, Mapping, NamedTuple, Sequence, Tuple
+from typing import AbstractSet, Any, Dict, Iterator, List, Mapping, NamedTuple, Sequence, Tuple
 
 from balisekit.etcs.raw_packets import content_of
 from balisekit.etcs.variables import UNITS
@@ -90,3 +90,11 @@ def of_packet(passage: Passage, packet: Packet) -> Iterator[Tuple[Kind, Conditio
             kind = packet.number, *(each.get(key, -1) for key in layout.kind)
             length = each[layout.length] * unit if layout.length else 0
             yield kind, Condition(place, length, passage, packet, distance)
+
+
+def of_telegrams(some: Sequence[Condition]) -> Sequence[Sequence[Condition]]:
+    """Several conditions of one telegram or message."""
+    found: Dict[int, List[Condition]] = {}
+    for each in some:
+        found.setdefault(id(each.packet.row or each.passage.message), []).append(each)
+    return [own for own in found.values() if len(own) > 1]

@@ -54,7 +54,6 @@ How sure. 88 %, by practice and memory of the standard.
 from __future__ import annotations
 
 from collections import Counter
-from decimal import Decimal
 from typing import Iterator, Optional, Sequence, Tuple
 
 from balisekit.etcs.variables import metres

@@ -106,8 +106,8 @@ def find(line: Line, options: Options) -> Result:
         *_unlike(calls, lambda each: each.digits, lambda each: each.centre, _centre_words),
         *of_borders.found,
     ]
-    left = Counter(call.left for call in calls if call.left) + Counter(of_borders.left)
-    left += passed_over(line.decoded, lambda each: each.number == TRANSITION)
+    lacks = passed_over(line.decoded, lambda each: each.number == TRANSITION)
+    left = Counter(call.left for call in calls if call.left) + Counter(of_borders.left) + lacks
     left[NOT_DECODED] = sum("nid_radio" not in packet.form for _, packet in sent(line.decoded, SESSION, TRANSITION))
     return Result(merged(found), len(calls) - sum(bool(call.left) for call in calls), +left, is_optional=True)
 

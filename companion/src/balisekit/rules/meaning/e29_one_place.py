@@ -60,7 +60,7 @@ from balisekit.etcs.variables import metres
 from balisekit.rules.decoded import tolerance_of_lengths
 from balisekit.rules.line import Line
 from balisekit.rules.meaning.along import parts, passed_over
-from balisekit.rules.meaning.conditions import LAYOUTS, Condition, conditions_of
+from balisekit.rules.meaning.conditions import LAYOUTS, Condition, conditions_of, of_telegrams
 from balisekit.rules.meaning.far_conditions import far_places
 from balisekit.rules.meaning.one_kind import of_two_kinds
 from balisekit.rules.meaning.sent import sent
@@ -81,7 +81,7 @@ def find(line: Line, options: Options) -> Result:
         near = LAYOUTS[kind[0]].near
         for part in parts(sorted(some, key=lambda each: each.place), near):
             found += _compare(line, options, part, near)
-        agree, both = partial(_agree, line, options), partial(_has_both, line, options, _of_telegrams(some))
+        agree, both = partial(_agree, line, options), partial(_has_both, line, options, of_telegrams(some))
         far = far_places(line.decoded, kind, some, agree, both) if len(some) > 1 else ()
         found += [_remark(line, each, usual) for each, usual in far]
     found += of_two_kinds(line.decoded, trusted, partial(_agree, line, options))
@@ -116,7 +116,7 @@ def _compare(line: Line, options: Options, some: Sequence[Condition], near: int)
     for each in some:
         firsts.setdefault(each.says, each)
         groups.setdefault(each.says, set()).add(id(each.passage.group or each.passage.message))
-    several = _of_telegrams(some)
+    several = of_telegrams(some)
     order = {says: (-len(groups[says]), place) for place, says in enumerate(firsts)}
     for each in some:
         better = [one for one in firsts.values() if order[one.says] < order[each.says]]
@@ -125,14 +125,6 @@ def _compare(line: Line, options: Options, some: Sequence[Condition], near: int)
         if usual and not _agree(line, options, each, usual):
             if not _has_both(line, options, several, each, usual):
                 yield _remark(line, each, usual)
-
-
-def _of_telegrams(some: Sequence[Condition]) -> Sequence[Sequence[Condition]]:
-    """Several conditions of one telegram or message."""
-    found: Dict[int, List[Condition]] = {}
-    for each in some:
-        found.setdefault(id(each.packet.row or each.passage.message), []).append(each)
-    return [own for own in found.values() if len(own) > 1]
 
 
 def _has_both(

@@ -16,7 +16,8 @@ from balisekit.rules.telegrams import LEVELS, Packet
 from balisekit.tables.decimals import whole
 
 CONDITIONAL, BOTH_DIRECTIONS, NOW, NEAR = 46, 2, 32_767, 5000
-"""NID_PACKET of a conditional order, Q_DIR, D_LEVELTR for at once, and in decimetres how near two announcements of one transition are."""
+"""NID_PACKET of a conditional order, Q_DIR, D_LEVELTR for at once, and in decimetres how near two announcements of one
+transition are."""
 
 
 class Order(NamedTuple):
