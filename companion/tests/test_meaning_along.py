@@ -1022,6 +1022,61 @@ def test_e26(found: Found) -> None:
 
 
 @pytest.mark.parametrize(
+    "count, begin, mode, words",
+    [
+        (
+            4,
+            400,
+            0,
+            "D_MAMODE is 400 m, and 0 m at all 3 other signals with this mode, such as Signal 2 (km 11.500), aspect",
+        ),
+        (4, 1600, 0, "D_MAMODE 1600 m is beyond the end of authority, 1500 m from the group"),
+        (3, 400, 0, ""),
+        (4, 400, 1, ""),
+    ],
+)
+def test_e26_of_one_signal(found: Found, count: int, begin: int, mode: int, words: str) -> None:
+    """On sight begins at three signals, and elsewhere at a fourth one. One mistake is one remark."""
+    usual = [with_packet(f"Signal {number}", YELLOW, on_sight(0)) for number in range(2, count + 1)]
+    made = found("E26", SHORT, all_of(*usual, with_packet("Signal 1", YELLOW, on_sight(begin, mode=mode))))
+    assert len(made) == bool(words) and all(words in each.sentence and each.blamed for each in made)
+    two = with_packet("Signal 5", YELLOW, on_sight(500)), with_packet("Signal 1", YELLOW, on_sight(400))
+    assert not found("E26", SHORT, all_of(*usual, *two))
+
+
+def test_e17_of_one_signal_without_links(found: Found) -> None:
+    """All other signals have a packet 5: the links of the signals in rear do not silence it. One remark is enough."""
+
+    def without_links(*numbers: int) -> Change:
+        def remove(rows: List[Row]) -> None:
+            for number in numbers:
+                form = form_of(rows, f"Signal {number}", FIXED)
+                form["packets"] = [each for each in form["packets"] if each["nid_packet"] != 5]
+
+        return remove
+
+    (one,) = found("E17", SHORT, without_links(4))
+    assert (
+        one.location.row
+        and one.location.row.group == "Signal 4"
+        and one.sentence
+        == (
+            "this group has no packet 5 for nominal direction, although its authorities lead past Signal 5 (km 16.000): "
+            "all 4 other groups with such authorities have one"
+        )
+    )
+    assert not found("E17", Line(signals=5), without_links(4)) and not found("E17", SHORT, without_links(4, 5))
+    assert not found(
+        "E17",
+        SHORT,
+        all_of(without_links(4), set_in("Signal 4", YELLOW, 12, v_main=0), set_in("Signal 4", GREEN, 12, v_main=0)),
+    )
+    assert all("m are without links" in each.sentence for each in found("E17", Line(signals=8), without_links(1)))
+    assert not found("E17", Line(signals=6, infill=(4,)), without_links(4))
+    assert found("E17", Line(signals=6, infill=(1,)), without_links(4))
+
+
+@pytest.mark.parametrize(
     "group, level, words",
     [
         ("Border", 0, ""),
