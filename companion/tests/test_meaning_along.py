@@ -1056,14 +1056,9 @@ def test_e17_of_one_signal_without_links(found: Found) -> None:
         return remove
 
     (one,) = found("E17", SHORT, without_links(4))
-    assert (
-        one.location.row
-        and one.location.row.group == "Signal 4"
-        and one.sentence
-        == (
-            "this group has no packet 5 for nominal direction, although its authorities lead past Signal 5 (km 16.000): "
-            "all 4 other groups with such authorities have one"
-        )
+    assert one.rows == (14, 15, 16, 17) and one.sentence == (
+        "this group has no packet 5 for nominal direction, although its authorities lead past Signal 5 (km 16.000): "
+        "all 4 other groups with such authorities have one"
     )
     assert not found("E17", Line(signals=5), without_links(4)) and not found("E17", SHORT, without_links(4, 5))
     assert not found(

@@ -82,7 +82,7 @@ def find(line: Line, options: Options) -> Result:
     found = [remark for end in known for remark in _look_at(decoded, options, lanes[lane_of(end.passage)], end)]
     named = {remark.location.group for remark in found}
     named_groups = {id(end.passage.group) for end in known if end.passage.group and end.passage.group.group in named}
-    found += signal_without_links(decoded, lanes, known, named_groups)
+    found += signal_without_links(line, lanes, known, named_groups)
     return Result(merged(found), len(known), lacks)
 
 

@@ -5,6 +5,7 @@ from typing import AbstractSet, Dict, Iterator, Mapping, NamedTuple, Sequence, T
 
 from balisekit.rules.decoded import Decoded
 from balisekit.rules.facts import counted, group_words, sender
+from balisekit.rules.line import Line
 from balisekit.rules.location import BaliseGroup
 from balisekit.rules.meaning.along import End, Lane, lane_of
 from balisekit.rules.meaning.reach import LESS, Reach
@@ -13,6 +14,8 @@ from balisekit.rules.telegrams import LINKING
 
 LEAST, REAR = 4, 20_000
 """How many other signals must have a packet 5, and how far in rear in decimetres other groups may have its links."""
+OF_OTHERS = (1, 2, 3)
+"""What the program finds if a telegram of the group is missing, in a wrong place, or another group's."""
 Key = Tuple[int, str]
 """A group, and the direction of its trains."""
 
@@ -28,15 +31,19 @@ class Signal(NamedTuple):
 
 
 def signal_without_links(
-    decoded: Decoded, lanes: Mapping[Lane, Reach], ends: Sequence[End], named: AbstractSet[int]
+    line: Line, lanes: Mapping[Lane, Reach], ends: Sequence[End], named: AbstractSet[int]
 ) -> Iterator[Remark]:
     """The signal without a packet 5, if all others have one, and it is not among the groups that are named already."""
+    decoded = line.decoded
     signals = _signals(decoded, lanes, ends)
     without = [each for each in signals.values() if not each.is_linking]
     if len(without) != 1 or len(signals) <= LEAST or id(without[0].end.passage.group) in named:
         return
     (signal,) = without
-    if _has_others(decoded, signal.end, signals):
+    data = signal.end.passage.group
+    if data is None or _has_others(decoded, signal.end, signals):
+        return
+    if any(line.has(rule, data.group) for rule in OF_OTHERS):
         return
     count = len(signals) - 1
     words = (
@@ -45,7 +52,8 @@ def signal_without_links(
     )
     others = (each for each in signals.values() if each.is_linking)
     facts = [group_words(signal.ahead), counted(sender(each.end.passage, each.end.packet) for each in others)]
-    yield Remark("E17", signal.end.passage.at(signal.end.packet), words, facts=facts)
+    rows = sorted({row.number for row in data.group.group.rows()})
+    yield Remark("E17", data.location(), words, rows=tuple(rows), facts=facts)
 
 
 def _signals(decoded: Decoded, lanes: Mapping[Lane, Reach], ends: Sequence[End]) -> Dict[Key, Signal]:
