@@ -385,3 +385,12 @@ def test_infill_or_its_signal(
     """Either is corrected, whichever leaves no entry. If both do, both are named."""
     (entry,) = _entries_of(run, written(program, tmp_path / "t.csv", Line(signals=6, infill=(3,)), change))
     assert (entry["rule"], entry["rows"]) == ("E15", rows) and entry["sentence"].endswith(words)
+
+
+def test_a_kilometre_that_one_link_contradicts(run: Run, program: Program, tmp_path: Path) -> None:
+    """The entry says which link it is, and that D_LINK may be wrong instead."""
+    (entry,) = _entries_of(run, written(program, tmp_path / "t.csv", Line(signals=2), moved("Signal 2", 270)))
+    assert entry["rows"] == [6, 7, 8, 9] and entry["sentence"] == (
+        "only one link shows that the kilometre of Signal 2 may be wrong: the first link of a packet 5 in Signal 1 "
+        "(row 2) differs by 270 m from it. If D_LINK is right, at km 11.500 it would agree"
+    )
