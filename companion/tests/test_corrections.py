@@ -21,7 +21,7 @@ from balisekit.engine.program import Program
 from balisekit.engine.records import Form
 from balisekit.rules import applied, checking, families
 from balisekit.rules.corrections import kilometres
-from balisekit.rules.corrections.correction import Correction, Evidence
+from balisekit.rules.corrections.correction import Correction, Evidence, Stage
 from balisekit.rules.families import FAMILIES, apply, items_of
 from balisekit.rules.line import Line as Railway
 from balisekit.rules.rule import Options, Result, Rule
@@ -246,9 +246,9 @@ def test_no_correction_is_guessed(
     """A correction after which other entries are there, or less is compared, explains nothing."""
     path = written(program, tmp_path / "t.csv", Line(), moved("Signal 9", 270))
     made = checking.check(program, reader.read(str(path)))
-    monkeypatch.setattr(families, "SUGGESTIONS", ((suggest,),))
+    monkeypatch.setattr(families, "SUGGESTIONS", (Stage((suggest,), 1),))
     assert len(apply(made, tuple(FAMILIES), Options()).entries) == 3
-    monkeypatch.setattr(families, "SUGGESTIONS", ((suggest, kilometres.suggest),))
+    monkeypatch.setattr(families, "SUGGESTIONS", (Stage((suggest, kilometres.suggest), 1),))
     outcome = apply(made, tuple(FAMILIES), Options())
     (entry,) = outcome.entries
     assert entry.sentence.startswith("all links") and len(items_of(entry)) == len(outcome.items) == 3
@@ -275,7 +275,7 @@ def test_nothing_is_asked_of_a_corrected_table_after_a_new_entry(
 
     path = written(program, tmp_path / "t.csv", Line(), moved("Signal 9", 270))
     made = checking.check(program, reader.read(str(path)))
-    monkeypatch.setattr(families, "SUGGESTIONS", ((suggest,),))
+    monkeypatch.setattr(families, "SUGGESTIONS", (Stage((suggest,), 1),))
     asked: List[str] = []
     results_of = applied.results_of
 
@@ -355,3 +355,42 @@ def test_a_trial_decodes_only_what_it_changes(
     without = len(counts)
     assert len(apply(made, tuple(FAMILIES), Options()).entries) == 1
     assert [count for count in counts[without:] if count] == [60] * (without + 2) and 0 in counts
+
+
+def of_packet(group: str, aspect: str, number: int, **values: Any) -> Change:
+    """Other values in a packet."""
+    return lambda rows: meaning_line.change(rows, group, aspect, number).update(values)
+
+
+@pytest.mark.parametrize(
+    "change, rows, words",
+    [
+        (of_packet("Signal 4", "green", 12, v_main=10), [21], "; row 21 with the packets of row 17 would agree"),
+        (
+            of_packet("Signal 4", "yellow", 12, l_endsection=1550),
+            [20],
+            "; row 20 with the packets of row 16 would agree",
+        ),
+        (of_packet("Infill of Signal 4", "green", 12, v_main=10), [17], "; with the packets of row 21 it would agree"),
+        (
+            of_packet("Signal 4", "yellow", 12, end_timer={"t_endtimer": 30, "d_endtimerstartloc": 100}),
+            [16, 20],
+            "; with the packets of row 20 it would agree, or row 20 with the packets of row 16 would agree",
+        ),
+    ],
+)
+def test_infill_or_its_signal(
+    run: Run, program: Program, tmp_path: Path, change: Change, rows: Any, words: str
+) -> None:
+    """Either is corrected, whichever leaves no entry. If both do, both are named."""
+    (entry,) = _entries_of(run, written(program, tmp_path / "t.csv", Line(signals=6, infill=(3,)), change))
+    assert (entry["rule"], entry["rows"]) == ("E15", rows) and entry["sentence"].endswith(words)
+
+
+def test_a_kilometre_that_one_link_contradicts(run: Run, program: Program, tmp_path: Path) -> None:
+    """The entry says which link it is, and that D_LINK may be wrong instead."""
+    (entry,) = _entries_of(run, written(program, tmp_path / "t.csv", Line(signals=2), moved("Signal 2", 270)))
+    assert entry["rows"] == [6, 7, 8, 9] and entry["sentence"] == (
+        "only one link shows that the kilometre of Signal 2 may be wrong: the first link of a packet 5 in Signal 1 "
+        "(row 2) differs by 270 m from it. If D_LINK is right, at km 11.500 it would agree"
+    )

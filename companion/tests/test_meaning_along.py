@@ -41,7 +41,7 @@ from balisekit.present.links_text import is_usual
 from balisekit.rules import checking, links, meaning
 from balisekit.rules.chainage import Jump
 from balisekit.rules.line import Line as LineOfTable
-from balisekit.rules.meaning import e22_temporary_restriction, ends_between, message_profiles
+from balisekit.rules.meaning import e22_temporary_restriction, ends_between, message_profiles, opposite_restrictions
 from balisekit.rules.rule import ALL, Options, Remark, Result, Urgency
 from balisekit.tables import messages as messages_file, plan as plan_file, reader
 
@@ -1069,6 +1069,80 @@ def test_e26(found: Found) -> None:
     assert one.sentence == "its message has no packet 12 or 15"
 
 
+@pytest.mark.parametrize(
+    "count, begin, mode, words",
+    [
+        (
+            4,
+            400,
+            0,
+            "D_MAMODE is 400 m, and 0 m at all 3 other signals with this mode, such as Signal 2 (km 11.500), aspect",
+        ),
+        (4, 1600, 0, "D_MAMODE 1600 m is beyond the end of authority, 1500 m from the group"),
+        (3, 400, 0, ""),
+        (4, 400, 1, ""),
+    ],
+)
+def test_e26_of_one_signal(found: Found, count: int, begin: int, mode: int, words: str) -> None:
+    """On sight begins at three signals, and elsewhere at a fourth one. One mistake is one remark."""
+    usual = [with_packet(f"Signal {number}", YELLOW, on_sight(0)) for number in range(2, count + 1)]
+    made = found("E26", SHORT, all_of(*usual, with_packet("Signal 1", YELLOW, on_sight(begin, mode=mode))))
+    assert len(made) == bool(words) and all(words in each.sentence and each.blamed for each in made)
+    two = with_packet("Signal 5", YELLOW, on_sight(500)), with_packet("Signal 1", YELLOW, on_sight(400))
+    assert not found("E26", SHORT, all_of(*usual, *two))
+
+
+def test_e17_of_one_signal_without_links(found: Found) -> None:
+    """All other signals have a packet 5: the links of the signals in rear do not silence it. One remark is enough."""
+
+    def without_links(*numbers: int) -> Change:
+        def remove(rows: List[Row]) -> None:
+            for number in numbers:
+                form = form_of(rows, f"Signal {number}", FIXED)
+                form["packets"] = [each for each in form["packets"] if each["nid_packet"] != 5]
+
+        return remove
+
+    (one,) = found("E17", SHORT, without_links(4))
+    assert one.rows == (14, 15, 16, 17) and one.sentence == (
+        "this group has no packet 5 for nominal direction, although its authorities lead past Signal 5 (km 16.000): "
+        "all 4 other groups with such authorities have one"
+    )
+    assert not found("E17", Line(signals=5), without_links(4)) and not found("E17", SHORT, without_links(4, 5))
+    assert not found(
+        "E17",
+        SHORT,
+        all_of(without_links(4), set_in("Signal 4", YELLOW, 12, v_main=0), set_in("Signal 4", GREEN, 12, v_main=0)),
+    )
+    assert all("m are without links" in each.sentence for each in found("E17", Line(signals=8), without_links(1)))
+    assert not found("E17", Line(signals=6, infill=(4,)), without_links(4))
+    assert found("E17", Line(signals=6, infill=(1,)), without_links(4))
+
+
+@pytest.mark.parametrize(
+    "group, level, words",
+    [
+        ("Border", 0, ""),
+        ("Signal 5", 2, ""),  # (in rear of the border)
+        ("Signal 6", 2, ""),  # (more than 500 m beyond it)
+        ("Border", 2, "the levels are level 1, and packet 41 of Border (km 16.700), row 22, has level 0 at km 16.700"),
+    ],
+)
+def test_e18_of_packets_46(found: Found, group: str, level: int, words: str) -> None:
+    """A conditional order at a border has the levels of the packets 41 for the border."""
+    aspect = "" if group == "Border" else FIXED
+    made = found("E18", BORDER, with_packet(group, aspect, raw(46, f"{level:03b}{0:05b}")))
+    assert [each.sentence for each in made] == ([words] if words else [])
+    assert all(rows_named(each) == (22,) for each in made)
+
+
+def test_e18_of_a_packet_46_that_announcements_support(found: Found) -> None:
+    """The announcements have its level: only they are reported, beside the order."""
+    announced = [set_in_item(f"Signal {number}", FIXED, 41, "transitions", 0, m_leveltr=2) for number in (4, 5)]
+    made = found("E18", BORDER, all_of(*announced, with_packet("Border", "", raw(46, f"{2:03b}{0:05b}"))))
+    assert [rows_named(each)[0] for each in made] == [14, 18]
+
+
 SAME = session(1, "0123456789")
 
 
@@ -1111,6 +1185,41 @@ def test_e27_of_borders(found: Found, second: Any, words: str) -> None:
     made = found("E27", SHORT, all_of(first, with_packet("Signal 4", FIXED, second)))
     assert len(made) == bool(words) and all(words in each.sentence for each in made)
     assert all(rows_named(each) == (14, 10) for each in made)
+
+
+@pytest.mark.parametrize(
+    "packets, rows",
+    [
+        ([(1, announcement_by_radio(5500)), (2, announcement_by_radio(5000))], [(6, 2)]),
+        (
+            [(1, announcement_by_radio(8500)), (2, announcement_by_radio(4000)), (3, announcement_by_radio(2500))],
+            [(2, 6)],
+        ),
+        ([(1, announcement_by_radio(5500)), (4, announcement_by_radio(32_767))], [(2, 14)]),
+        ([(1, announcement_by_radio(4500)), (4, announcement_by_radio(32_767))], []),
+        ([(1, announcement_by_radio(4500)), (3, announcement_by_radio(0)), (4, announcement_by_radio(0))], [(10, 2)]),
+        ([(1, announcement_by_radio(4500)), (4, announcement_by_radio(0)), (6, announcement_by_radio(0))], []),
+        ([(1, announcement_by_radio(2000)), (4, announcement_by_radio(2000)), (3, session())], []),
+        ([(1, announcement_by_radio(2000)), (4, announcement_by_radio(2000)), (3, session(centre=2))], [(14, 2)]),
+    ],
+)
+def test_e27_of_far_borders(found: Found, packets: Sequence[Tuple[int, Any]], rows: Sequence[Tuple[int, ...]]) -> None:
+    """Packets 131 for one RBC have one place, however far, unless trains have another RBC in between."""
+    made = found("E27", SHORT, all_of(*(with_packet(f"Signal {number}", FIXED, each) for number, each in packets)))
+    assert [rows_named(each) for each in made] == rows and all("the border is at" in each.sentence for each in made)
+
+
+def test_e27_of_another_track(found: Found) -> None:
+    """A border beyond a route to another track may be on that track: it is counted."""
+
+    def to_track_2(rows: List[Row]) -> None:
+        for row in rows:
+            row.track = "2" if row.group in ("Signal 4", "Signal 5") else "1"
+        announcements = [(1, announcement_by_radio(5500)), (6, announcement_by_radio(2000))]
+        all_of(*(with_packet(f"Signal {number}", FIXED, each) for number, each in announcements))(rows)
+
+    result = found.result("E27", SHORT, to_track_2)
+    assert result.found == [] and result.not_looked_at["another track"] == 1
 
 
 def test_e28(found: Found) -> None:
@@ -1166,7 +1275,11 @@ def crossing(distance: int, length: int = 20) -> Any:
         (condition(2500), condition(1002), 0),
         (condition(2500), condition(1150), 1),
         (condition(2500), condition(1000, 250), 1),
-        (condition(2500), condition(1250), 0),  # (more than 200 m apart)
+        (condition(2500), condition(1250), 1),  # (more than 200 m apart, and in one section)
+        (condition(2500), condition(1250, 350), 0),
+        (condition(2500, 300, 2), condition(1250, 300, 2), 0),  # (places to sound the horn)
+        (condition(2500), condition(1900), 0),  # (beyond the next signal)
+        (condition(1200), condition(200), 0),  # (in rear of the second signal)
         (condition(2500), condition(1150, 300, 3), 0),  # (another kind)
         (condition(1400, 300), condition(0, 200), 0),  # (the rest of it)
         (condition(1400, 300), condition(0, 150), 1),
@@ -1196,6 +1309,9 @@ def test_e29_of_two_conditions(found: Found) -> None:
     two = raw(68, f"010{elements}{1:05b}{100:015b}{50:015b}{9:04b}")
     sent = with_packet("Signal 3", FIXED, two), with_packet("Signal 4", FIXED, condition(1100, 50))
     assert not found("E29", SHORT, all_of(*sent))
+    second = with_packet("Signal 3", FIXED, condition(2600, 50))
+    several = (with_packet("Signal 3", FIXED, condition(2500, 50)), with_packet("Signal 4", FIXED, condition(1100, 50)))
+    assert len(found("E29", SHORT, all_of(*several))) == 1 and not found("E29", SHORT, all_of(*several, second))
     usual = (with_packet(f"Signal {number}", FIXED, condition(5500 - 1500 * number)) for number in (1, 3))
     (one,) = found("E29", SHORT, all_of(*usual, with_packet("Signal 2", FIXED, condition(2600))))
     assert one.location.row and one.location.row.group == "Signal 2"
@@ -1209,6 +1325,16 @@ def test_e29_of_two_packets_of_one_message(found: Found) -> None:
     apart = with_packet("Signal 3", GREEN, condition(2500)), with_packet("Signal 3", YELLOW, condition(2600))
     (one,) = found("E29", SHORT, all_of(*apart))
     assert rows_named(one) == (12, 13)
+def test_e29_of_far_places(found: Found) -> None:
+    """A group states another place than the groups in rear of it. Two groups, or one telegram, show two conditions."""
+    usual = [with_packet(f"Signal {number}", FIXED, condition(7000 - 1500 * number)) for number in (1, 2)]
+    far = with_packet("Signal 3", FIXED, condition(4500))
+    (one,) = found("E29", SHORT, all_of(*usual, far))
+    assert rows_named(one) == (10, 2) and "is at km 17.500 (4500 m from the group) for 300 m, and by" in one.sentence
+    assert not found("E29", SHORT, all_of(*usual, far, with_packet("Signal 4", FIXED, condition(3000))))
+    assert not found("E29", SHORT, all_of(*usual, far, with_packet("Signal 3", FIXED, condition(2500))))
+    assert not found("E29", SHORT, all_of(*usual, with_packet("Signal 5", FIXED, condition(1500))))
+    assert not found("E29", SHORT, all_of(usual[1], with_packet("Signal 1", FIXED, condition(7500))))
 
 
 def kinds(*own: int) -> Any:
@@ -1301,7 +1427,18 @@ def revocation(number: int, direction: int = 1) -> Any:
     [
         ([restriction(7, 700, 200, 40)], [revocation(7)], ""),
         ([], [revocation(7)], ""),
-        ([restriction(255, 700, 200, 40)], [revocation(7)], ""),
+        (
+            [restriction(255, 700, 200, 40)],
+            [revocation(7)],
+            "which nothing can revoke, although the packet 66 in row 14",
+        ),
+        ([restriction(255, 700, 200, 40)] * 2, [revocation(7)], ""),
+        ([restriction(255, 700, 200, 40)], [revocation(7, 0)], ""),
+        (
+            [restriction(255, 700, 200, 40), restriction(7, 900, 200, 40)],
+            [revocation(8)],
+            "packet 66 in row 14 revokes 8",
+        ),
         ([], [revocation(255)], "NID_TSR is 255, and nothing can revoke a restriction with this number"),
         ([restriction(7, 700, 200, 40)], [revocation(8)], "NID_TSR is 8, and no packet 65 of the table has it"),
         ([restriction(7, 700, 200, 40)], [revocation(7, 0)], "only packets 65 for trains of the other direction"),
@@ -1413,6 +1550,88 @@ def test_e22_of_one_restriction(found: Found) -> None:
     ]
     (one,) = found("E22", SHORT, all_of(second, third, *twin))
     assert "is 7, and 9 by Signal 4" in one.sentence
+
+
+def in_reverse(number: int, begin: int, length: int, speed: int, group: str = "Signal R4") -> Change:
+    """A restriction of this number for trains towards lower kilometres, which begins at this place in metres."""
+
+    def add(rows: List[Row]) -> None:
+        place = next(row.place for row in rows if row.group == group)
+        with_packet(group, FIXED, restriction(number, place - begin, length, speed))(rows)
+
+    return add
+
+
+@pytest.mark.parametrize(
+    "number, begin, length, speed, words",
+    [
+        (7, 14_500, 500, 40, ""),
+        (7, 14_501, 501, 40, ""),
+        (8, 14_600, 500, 40, ""),
+        (7, 12_000, 500, 40, ""),  # (elsewhere)
+        (
+            7,
+            14_600,
+            500,
+            40,
+            "the restriction with NID_TSR 7 is from km 14.100 to km 14.600 with 40 km/h, and for trains",
+        ),
+        (
+            7,
+            14_500,
+            600,
+            40,
+            "is from km 13.900 to km 14.500 with 40 km/h, and for trains of the other direction from km",
+        ),
+        (7, 14_500, 500, 50, "km 14.000 to km 14.500 with 40 km/h by Signal 2 (km 11.500), row"),
+    ],
+)
+def test_e22_of_both_directions(found: Found, number: int, begin: int, length: int, speed: int, words: str) -> None:
+    """A restriction is one stretch with one speed for trains of both directions."""
+    made = found("E22", BOTH, all_of(RESTRICTED, in_reverse(number, begin, length, speed)))
+    assert len(made) == bool(words) and all(words in each.sentence for each in made)
+    assert all(each.location.row and each.location.row.group == "Signal R4" for each in made)
+
+
+def test_e22_of_numbers_by_direction(found: Found) -> None:
+    """Four restrictions that agree show that the fifth one is elsewhere. Two that differ are counted."""
+    line = Line(signals=15, both=True)
+    agreeing = [
+        change_
+        for number, group in ((1, 5), (2, 7), (3, 9), (4, 11))
+        for change_ in (
+            with_packet(f"Signal {group}", FIXED, restriction(number, 1000, 500, 40)),
+            in_reverse(number, 10_000 + 1500 * (group - 1) + 1500, 500, 40, "Signal R15"),
+        )
+    ]
+    assert not found("E22", line, all_of(RESTRICTED, *agreeing))
+    far = in_reverse(7, 13_000, 500, 40, "Signal R15")
+    (one,) = found("E22", line, all_of(RESTRICTED, *agreeing, far))
+    assert "is from km 12.500 to km 13.000 with 40 km/h" in one.sentence
+    second = with_packet("Signal 3", FIXED, restriction(9, 1000, 500, 40)), in_reverse(9, 14_700, 500, 40, "Signal R4")
+    result = found.result("E22", BOTH, all_of(RESTRICTED, in_reverse(7, 14_600, 500, 40), *second))
+    assert not result.found and result.not_looked_at == {opposite_restrictions.OPPOSITE: 4}
+
+
+@pytest.mark.parametrize(
+    "distance, length, speed, count",
+    [
+        (1000, 500, 40, 0),
+        (1100, 500, 40, 1),
+        (1000, 500, 50, 1),
+        (1000, 600, 40, 1),
+        (1100, 600, 40, 0),
+        (1300, 500, 40, 0),
+    ],
+)
+def test_e22_without_a_number(found: Found, distance: int, length: int, speed: int, count: int) -> None:
+    """Two groups give one restriction with NID_TSR 255 otherwise. A telegram with both has two."""
+    second = with_packet("Signal 2", FIXED, restriction(255, 2500, 500, 40))
+    third = restriction(255, distance, length, speed)
+    made = found("E22", SHORT, all_of(second, with_packet("Signal 3", FIXED, third)))
+    assert len(made) == count
+    both = with_packet("Signal 3", FIXED, third, restriction(255, 1000, 500, 40))
+    assert not found("E22", SHORT, all_of(second, both))
 
 
 def test_e22_of_packets_with_numbers_of_their_own(found: Found) -> None:

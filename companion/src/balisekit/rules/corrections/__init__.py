@@ -18,23 +18,25 @@ from balisekit.rules.corrections import (
     places,
     telegrams,
 )
-from balisekit.rules.corrections.correction import Suggest
+from balisekit.rules.corrections.correction import Stage
 
-SUGGESTIONS: Sequence[Sequence[Suggest]] = (
-    (headers.suggest,),
-    (
-        kilometres.suggest,
-        balises.suggest,
-        counters.suggest,
-        telegrams.suggest,
-        identities.suggest,
-        packets.suggest,
-        links.suggest,
+SUGGESTIONS: Sequence[Stage] = (
+    Stage((headers.suggest,), 1),
+    Stage(
+        (
+            kilometres.suggest,
+            balises.suggest,
+            counters.suggest,
+            telegrams.suggest,
+            identities.suggest,
+            packets.suggest,
+            links.suggest,
+        )
     ),
-    (packets.suggest_infill,),
-    (places.suggest,),
+    Stage((packets.suggest_infill,), 1),
+    Stage((places.suggest,)),
 )
 """In the order in which they are tried: what the rest of the table shows, what would be right, where the mistake is.
 
-Infill comes after what would be right at its signal.
+Infill comes after what would be right at its signal. A single entry may be due to either of the two.
 """

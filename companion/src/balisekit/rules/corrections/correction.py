@@ -46,14 +46,18 @@ class Correction(NamedTuple):
     """Whether it leaves out the packets of a telegram of another group: its group then lacks what it should have."""
     rule: str = ""
     """The rule of the entry, if that is not the rule of the first entry that it explains."""
+    both: str = ""
+    """The sentence if the correction of the other side of a difference removes the same entries."""
 
     def is_like(self, other: Correction) -> bool:
-        """Whether both leave out an aspect of one group: then nobody knows which of the aspects is wrong."""
+        """Whether nobody knows which of two is right: both leave out an aspect of a group, or are of one difference."""
+        if self.both:
+            return self.both == other.both
         return bool(self.lost and other.lost) and self.group is other.group
 
     def either(self, other: Correction) -> Correction:
         """Both as one place."""
-        rows, sentence = {*self.rows, *other.rows}, f"{self.sentence} or {other.sentence}"
+        rows, sentence = {*self.rows, *other.rows}, self.both or f"{self.sentence} or {other.sentence}"
         return self._replace(rows=tuple(sorted(rows)), sentence=sentence)
 
 
@@ -126,3 +130,11 @@ def with_values(form: Form, **values: Any) -> Form:
 
 Suggest = Callable[[Evidence], Iterator[Correction]]
 """Corrections that may explain entries, the most likely first."""
+
+
+class Stage(NamedTuple):
+    """Suggestions that are tried together."""
+
+    suggest: Sequence[Suggest]
+    least: int = 2
+    """The fewest open entries for which they are tried."""

@@ -6,12 +6,13 @@ from decimal import Decimal
 from typing import Any, Dict, Iterator, List, Mapping, NamedTuple, Optional, Sequence, Set, Tuple
 
 from balisekit.engine.records import Form
+from balisekit.rules.chains import Chain
 from balisekit.rules.corrections.correction import Correction, Evidence
 from balisekit.rules.line import Line
 from balisekit.rules.location import BaliseGroup
 from balisekit.tables.changed import Cells
 from balisekit.tables.model import Row
-from balisekit.tables.names import clean, counted, kilometre
+from balisekit.tables.names import clean, counted, kilometre, ordinal, rows_words
 
 DECIMETRES = 10_000
 """In a kilometre."""
@@ -28,6 +29,8 @@ class Lead(NamedTuple):
     """Whether the kilometre of the table is elsewhere."""
     is_to: bool
     """Whether it leads to the group, and not from it."""
+    words: str
+    """Which link it is."""
 
 
 class Elsewhere(NamedTuple):
@@ -42,6 +45,8 @@ class Elsewhere(NamedTuple):
     """How many links lead to it or from it, and are compared."""
     off: int
     """By how many decimetres the farthest of those that agree leads elsewhere. 0 if all lead to this place."""
+    first: str
+    """Which link is the first of those that agree."""
 
     @property
     def metres(self) -> Decimal:
@@ -91,9 +96,17 @@ def _leads(evidence: Evidence) -> Mapping[int, Sequence[Lead]]:
             seen.add(key)
             off = sender.place + along * link.total - target.place
             differs = abs(off) > line.allowed(link, link.number + 1, evidence.options.tolerance)
-            found.setdefault(target.number, []).append(Lead(target.place + off, differs, True))
-            found.setdefault(sender.number, []).append(Lead(sender.place - off, differs, False))
+            words = _words(chain, sender, link.number)
+            found.setdefault(target.number, []).append(Lead(target.place + off, differs, True, words))
+            found.setdefault(sender.number, []).append(Lead(sender.place - off, differs, False, words))
     return found
+
+
+def _words(chain: Chain, sender: BaliseGroup, link: int) -> str:
+    """A link by its place in its packet, and by who sends it."""
+    row = chain.location.row
+    where = f"{clean(sender.group.name)} ({rows_words([row.number])})" if row else "a message"
+    return f"the {ordinal(link)} link of a packet 5 in {where}"
 
 
 def _elsewhere(evidence: Evidence, leads_of: Mapping[int, Sequence[Lead]]) -> Iterator[Elsewhere]:
@@ -106,7 +119,8 @@ def _elsewhere(evidence: Evidence, leads_of: Mapping[int, Sequence[Lead]]) -> It
             near = {other: count for other, count in places.items() if abs(other - place) <= SAME}
             agreeing, off = sum(near.values()), max(abs(other - place) for other in near)
             if 2 * agreeing >= len(leads):
-                yield Elsewhere(groups[number], place, agreeing, len(leads), off)
+                first = next(lead.words for lead in leads if lead.differs and lead.place in near)
+                yield Elsewhere(groups[number], place, agreeing, len(leads), off, first)
 
 
 def _exchanged(found: Sequence[Elsewhere]) -> Iterator[Tuple[Elsewhere, Elsewhere]]:
@@ -133,10 +147,16 @@ def _cells(group: BaliseGroup, metres: Decimal) -> Cells:
 
 def _moved(one: Elsewhere) -> Correction:
     which = "all links" if one.agreeing == one.links else f"{one.agreeing} of {one.links} links"
+    name, apart = clean(one.group.group.name), f"{abs(one.metres):f} m"
     sentence = (
-        f"{which} to and from {clean(one.group.group.name)} differ by {'about ' if one.off else ''}"
-        f"{abs(one.metres):f} m from its kilometre: at km {one.kilometre} they would {_agree(one.off)}"
+        f"{which} to and from {name} differ by {'about ' if one.off else ''}{apart} from its kilometre: at km "
+        f"{one.kilometre} they would {_agree(one.off)}"
     )
+    if one.agreeing == 1:
+        sentence = (
+            f"only one link shows that the kilometre of {name} may be wrong: {one.first} differs by {apart} from it. If "
+            f"D_LINK is right, at km {one.kilometre} it would agree"
+        )
     cells, values = _cells(one.group, one.metres), {"km": one.kilometre, "metres": f"{one.metres:f}"}
     return Correction(one.group.group, tuple(sorted(cells)), sentence, cells, values=values)
 

@@ -133,21 +133,42 @@ def _of_siblings(evidence: Evidence, row: int) -> Iterator[Correction]:
 
 
 def _of_infill(evidence: Evidence, entry: Entry) -> Iterator[Correction]:
-    """The packets of an infill that E15 compares, as its signal has them, for the direction of the infill."""
-    signals = {where.row.number for where in entry.remark.compared if where.row} if entry.remark else set()
-    for row in entry.rows if len(entry.rows) == 1 and signals <= evidence.rows.keys() else ():
-        made, is_infill = evidence.forms[row], False
-        for place, packet in enumerate(made["packets"]):
-            number = packet["nid_packet"]
-            found = (_alike(evidence.forms[each], number) for each in sorted(signals))
-            other = next((each for each in found if each), None)
-            if is_infill and other and number in COMPARED:
-                made = with_packet(made, place, {**other, "q_dir": packet["q_dir"]})
-            is_infill = is_infill or number == INFILL
-        if made != evidence.forms[row]:
-            words = f"{entry.sentence}; with the packets of {rows_words(sorted(signals))} it would agree"
-            correction = Correction(group_of(evidence, row), (row,), words, forms={row: made}, values=entry.values)
-            yield correction._replace(rule="E15", least=1)
+    """The packets that E15 compares: those of an infill as its signal has them, and those of the signal as the infill.
+
+    Each keeps its Q_DIR.
+    """
+    compared = {where.row.number for where in entry.remark.compared if where.row} if entry.remark else set()
+    signals = tuple(sorted(compared))
+    if not signals or not {*compared, *entry.rows} <= evidence.rows.keys():
+        return
+    own, its = entry.rows, rows_words(signals)
+    infill = {row: _as_in(evidence, row, signals) for row in own}
+    signal = {row: _as_in(evidence, row, own) for row in signals}
+    words = f"{entry.sentence}; with the packets of {its} it would agree"
+    other = f"{its} with the packets of {rows_words(own)} would agree"
+    made = Correction(group_of(evidence, own[0]), own, words, values=entry.values, rule="E15", least=1)
+    made = made._replace(both=f"{words}, or {other}")
+    yield from [made._replace(forms=infill)] if _changes(evidence, infill) else ()
+    group, sentence = group_of(evidence, signals[0]), f"infill in {rows_words(own)}: {entry.sentence}; {other}"
+    turned = made._replace(group=group, rows=signals, sentence=sentence, forms=signal)
+    yield from [turned] if _changes(evidence, signal) else ()
+
+
+def _changes(evidence: Evidence, forms: Mapping[int, Form]) -> bool:
+    """Whether telegrams are others than those of the table."""
+    return any(form != evidence.forms[row] for row, form in forms.items())
+
+
+def _as_in(evidence: Evidence, row: int, others: Sequence[int]) -> Form:
+    """A telegram whose packets that E15 compares are those of other telegrams. In infill they follow a packet 136."""
+    made, numbers = evidence.forms[row], [packet["nid_packet"] for packet in evidence.forms[row]["packets"]]
+    begin = numbers.index(INFILL) if INFILL in numbers else -1
+    for place, packet in enumerate(made["packets"]):
+        found = (_alike(evidence.forms[each], packet["nid_packet"]) for each in others)
+        other = next((each for each in found if each), None)
+        if other and place > begin and packet["nid_packet"] in COMPARED:
+            made = with_packet(made, place, {**other, "q_dir": packet["q_dir"]})
+    return made
 
 
 def _alike(form: Form, number: int) -> Optional[Mapping[str, Any]]:

@@ -27,7 +27,7 @@ from typing import (
 from balisekit.engine.program import Program, Text
 from balisekit.errors import TableError, TableErrors
 from balisekit.expressions import expression
-from balisekit.rules.corrections.correction import Correction, Evidence, Suggest, names_another_identity
+from balisekit.rules.corrections.correction import Correction, Evidence, Stage, names_another_identity
 from balisekit.rules.entries import Entry
 from balisekit.tables.changed import changed_table
 from balisekit.tables.model import Table
@@ -63,9 +63,7 @@ Again = Callable[[Table], Iterator[Answer]]
 """What parts of the check, one after the other, say of a corrected table. No two of them have entries of one rule."""
 
 
-def explained(
-    evidence: Evidence, before: Answer, again: Again, suggestions: Sequence[Sequence[Suggest]]
-) -> List[Explained]:
+def explained(evidence: Evidence, before: Answer, again: Again, suggestions: Sequence[Stage]) -> List[Explained]:
     """The corrections that explain open entries. Each entry belongs to one of them at most.
 
     Of the corrections of one stage those that explain most entries count.
@@ -74,9 +72,9 @@ def explained(
     most = min(MOST, JUDGED // max(len(evidence.checked.table.rows) + len(before.entries), 1))
     had = Counter(map(_key, before.entries if most else ()))
     for stage in suggestions:
-        if not evidence.entries or len(evidence.entries) == 1 and stage is not suggestions[0]:
-            break
-        some = islice((each for suggest in stage for each in suggest(evidence)), most)
+        if len(evidence.entries) < stage.least:
+            continue
+        some = islice((each for suggest in stage.suggest for each in suggest(evidence)), most)
         tried = _of_stage(evidence, some, partial(_gone, evidence, before, had, again))
         for each in _united(sorted(tried, key=lambda each: -len(each.entries))):
             still_open = {id(entry) for entry in evidence.entries}

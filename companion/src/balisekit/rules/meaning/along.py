@@ -24,6 +24,7 @@ from balisekit.rules.line import Line
 from balisekit.rules.passages import Passage
 from balisekit.rules.rule import Options
 from balisekit.rules.telegrams import Packet, allowance
+from balisekit.tables.chainage import apart
 
 Lane = Tuple[str, int]
 """A track, and 1 if the trains go towards greater kilometres, else -1."""
@@ -176,11 +177,11 @@ def unread_of(decoded: Decoded) -> Iterator[Tuple[str, Optional[int]]]:
     return ((data.group.track, data.place) for data in decoded.groups if data.group.unread)
 
 
-def parts(some: Iterable[Thing], apart: int) -> Iterator[List[Thing]]:
-    """Things in the order of their places, those together that are at most so far apart."""
+def parts(some: Iterable[Thing], most: int) -> Iterator[List[Thing]]:
+    """Things in the order of their places, those together that are at most so far from the one before."""
     part: List[Thing] = []
     for each in some:
-        if part and each.place - part[-1].place > apart:
+        if part and each.place - part[-1].place > most:
             yield part
             part = []
         part.append(each)
@@ -200,6 +201,17 @@ def leaves(options: Options, decoded: Decoded, passage: Passage, place: int) -> 
         return False
     km = decoded.chainages[group.track].kilometre(place)
     return bool(options.plan.points_between(group.track, group.km, km, passage.way or 0))
+
+
+def leads_elsewhere(decoded: Decoded, passage: Passage, packet: Packet, place: int) -> str:
+    """Why packets 5 of an aspect with a packet lead to another track before a place ahead of its group, or nothing."""
+    data, distance = passage.group, abs(place - (passage.place(0) or 0))
+    if not distance or data is None:
+        return ""
+    own = (each for each in data.passages if each.direction == passage.direction)
+    links = (link for each in own if packet in each.said for link in each.links)
+    tracks = {link.target.track for link in links if link.target and link.total <= distance}
+    return next(filter(None, (apart(data.group.track, track) for track in sorted(tracks))), "")
 
 
 class Passed:

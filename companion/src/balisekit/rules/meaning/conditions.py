@@ -1,7 +1,7 @@
 """Track conditions at their places, by raw packets. For E29."""
 from __future__ import annotations
 
-from typing import AbstractSet, Any, Dict, Iterator, Mapping, NamedTuple, Sequence, Tuple
+from typing import AbstractSet, Any, Dict, Iterator, List, Mapping, NamedTuple, Sequence, Tuple
 
 from balisekit.etcs.raw_packets import content_of
 from balisekit.etcs.variables import UNITS
@@ -90,3 +90,17 @@ def of_packet(passage: Passage, packet: Packet) -> Iterator[Tuple[Kind, Conditio
             kind = packet.number, *(each.get(key, -1) for key in layout.kind)
             length = each[layout.length] * unit if layout.length else 0
             yield kind, Condition(place, length, passage, packet, distance)
+
+
+def of_messages(some: Sequence[Condition]) -> Sequence[Sequence[Condition]]:
+    """The conditions of each message that has several: a packet of a fixed balise is in those of all aspects."""
+    senders: Dict[int, List[Condition]] = {}
+    for each in some:
+        senders.setdefault(id(each.passage.message or each.passage.group), []).append(each)
+    found: List[Sequence[Condition]] = []
+    for own in senders.values():
+        first = own[0].passage
+        messages = [first] if first.message or not first.group else first.group.passages
+        for said in ({id(packet) for packet in each.said} for each in messages if len(own) > 1):
+            found.append([each for each in own if id(each.packet) in said])
+    return found

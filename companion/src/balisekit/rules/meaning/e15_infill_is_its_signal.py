@@ -37,7 +37,8 @@ rule. {kilometres} {one way}
 
 Usual cause. The infill was not changed with its signal. Or the infill was copied from the wrong aspect.
 
-How to correct it. If the signal is right, copy its packets after the packet 136, aspect by aspect.
+How to correct it. If the signal is right, copy its packets after the packet 136, aspect by aspect. If the infill is
+right, correct the packets of the signal. The entry says which of the two would remove all entries, or that both would.
 
 How to accept it. State what the infill leaves out or changes on purpose.
 

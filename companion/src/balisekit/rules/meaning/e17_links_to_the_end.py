@@ -9,6 +9,9 @@ another linked group follows. The rule rests on SUBSET-026, 3.4.4.
 - A linked group follows if it has Q_LINK 1, and packets for that direction other than 0, 145, 254 and 255. It can be up
   to 50 m beyond the end of the authority.
 - A remark names the first five groups without a link, and counts the others.
+- A group whose authorities lead past a linked group, and that has no packet 5 for their direction in any aspect, is
+  reported too. This is so even if groups before it name all groups, if it is the only one, and at least four others
+  have a packet 5.
 - Nothing is reported if the authority ends beyond the last such group of its track and way. It is counted as not
   compared, unless packets 5 lead to its end.
 - Nothing is reported if the last link of a packet 5 of its message is NID_BG 16,383. Then a group with repositioning
@@ -25,9 +28,10 @@ packets 5 lead to km 14.500 only. After: the packet 5 of Signal 3 also names the
 
 When it is a false alarm. The rule assumes that the line uses linking. A line might use none, or none on this part, such
 as in rear of a level 2 area. It assumes that packets 5 lead to the end of the authority. They might lead only to the
-next signal, which has its own packet 5. Or groups that the table lacks, or of another track, might have the other
-links. It assumes that the groups ahead are for these trains. Groups for level 2 or a national system (packet 44) are
-not. {leaving} {points} {kilometres} A missing kilometre matters only if no packet 5 leads to its group. {one way}
+next signal, which has its own packet 5. One signal might need no packet 5, because the one before it names all groups.
+Or groups that the table lacks, or of another track, might have the other links. It assumes that the groups ahead are
+for these trains. Groups for level 2 or a national system (packet 44) are not. {leaving} {points} {kilometres} A missing
+kilometre matters only if no packet 5 leads to its group. {one way}
 
 Usual cause. A link was forgotten. Or the packet 5 was made for another aspect.
 
@@ -61,6 +65,7 @@ from balisekit.rules.meaning.along import (
     unread_of,
 )
 from balisekit.rules.meaning.reach import LESS, Reach, lanes_of_links
+from balisekit.rules.meaning.signals_without_links import signal_without_links
 from balisekit.rules.meaning.words import merged
 from balisekit.rules.passages import GroupData, Passage
 from balisekit.rules.rule import Options, Remark, Result, Rule, Urgency
@@ -89,6 +94,9 @@ def find(line: Line, options: Options) -> Result:
         return Result([Remark("E17", ends[0].passage.at(), sentence, facts=facts)], len(ends), lacks)
     lanes, known = lanes_of_links(decoded), [end for end in ends if not _may_be_linked(line, end)]
     found = [remark for end in known for remark in _look_at(decoded, options, lanes[lane_of(end.passage)], end)]
+    named = {remark.location.group for remark in found}
+    named_groups = {id(end.passage.group) for end in known if end.passage.group and end.passage.group.group in named}
+    found += signal_without_links(line, lanes, known, named_groups)
     beyond_it = {end.key: _beyond(lanes[lane_of(end.passage)], end) for end in known}
     apart = [each for each in beyond_it.values() if each > 0]
     longest = max((end.distance for end in known if beyond_it[end.key] <= 0), default=0)

@@ -8,6 +8,9 @@ announced place. The rule rests on SUBSET-026, 5.10 and 7.4.2.
   (default 1 m) and rounding.
 - Levels: all announcements and orders of one transition must have the same M_LEVELTR and NID_NTC in the same order.
 - L_ACKLEVELTR: announcements of one place with the same levels must have the same L_ACKLEVELTR.
+- Packet 46 (conditional level transition order): one at the border, or up to 500 m beyond it, must have the levels of a
+  packet 41 for the border in the same order. The proved program does not decode it: balisekit decodes it by a layout of
+  its own.
 - Missing order: announcements between the first and the last group of the track need an order within 500 m of their
   place. One remark names all packets that announce this place.
 - Packets for trains that run the same way on the same track belong to one transition if each place is at most 500 m
@@ -51,17 +54,23 @@ How sure. 88 %, by practice and memory of the standard.
 from __future__ import annotations
 
 from collections import Counter
-from decimal import Decimal
 from typing import Iterator, Optional, Sequence, Tuple
 
 from balisekit.etcs.variables import metres
 from balisekit.rules.decoded import Decoded
 from balisekit.rules.line import Line
-from balisekit.rules.meaning.along import parts, unread_of
-from balisekit.rules.meaning.orders import NEAR, Order, orders_of, unplaced_orders, without_direction
+from balisekit.rules.meaning.along import leads_elsewhere, parts, unread_of
+from balisekit.rules.meaning.border_levels import unlike_lengths, unlike_levels
+from balisekit.rules.meaning.orders import (
+    NEAR,
+    Order,
+    conditional_orders,
+    orders_of,
+    unplaced_orders,
+    without_direction,
+)
 from balisekit.rules.meaning.words import at_place, merged, source
 from balisekit.rules.rule import Options, Remark, Result, Rule, Urgency
-from balisekit.tables.chainage import apart
 
 Unknown = Sequence[Tuple[str, Optional[int]]]
 """Tracks and places of groups that may order a level."""
@@ -72,27 +81,25 @@ def find(line: Line, options: Options) -> Result:
     decoded, found, looked_at = line.decoded, [], 0
     leaving: Counter[str] = Counter()
     unknown = [*without_direction(decoded), *unread_of(decoded)]
-    for orders in orders_of(decoded).values():
+    conditional = conditional_orders(decoded)
+    for lane, orders in orders_of(decoded).items():
         reasons = [_leaves(decoded, order) for order in orders]
         staying = [order for order, why in zip(orders, reasons) if not why]
         looked_at += len(staying)
         leaving.update(filter(None, reasons))
         for part in parts(staying, NEAR):
             usual = _usual(part)
-            found += [*_compare(decoded, options, part, usual, unknown), *_lengths(part)]
+            found += [*_compare(decoded, options, part, usual, unknown), *unlike_lengths(part)]
+            beyond = [each for each in conditional.get(lane, ()) if 0 <= each.along - usual.along <= NEAR]
+            looked_at += len(beyond)
+            found += unlike_levels(decoded, part, usual, beyond)
             found += [] if usual.is_now else list(_unordered(decoded, part, usual, unknown))
     return Result.of_places(merged(found), looked_at, unplaced_orders(decoded), leaving)
 
 
 def _leaves(decoded: Decoded, order: Order) -> str:
     """Why packets 5 of an aspect with an announcement leave its track before its place, or nothing."""
-    data, distance = order.passage.group, abs(order.place - (order.passage.place(0) or 0))
-    if order.is_now or data is None:
-        return ""
-    own = (each for each in data.passages if each.direction == order.passage.direction)
-    links = (link for passage in own if order.packet in passage.said for link in passage.links)
-    tracks = {link.target.track for link in links if link.target and link.total <= distance}
-    return next(filter(None, (apart(data.group.track, track) for track in sorted(tracks))), "")
+    return "" if order.is_now else leads_elsewhere(decoded, order.passage, order.packet, order.place)
 
 
 def _usual(orders: Sequence[Order]) -> Order:
@@ -129,29 +136,6 @@ def _compare(
         values = {**order.values(), **usual.values("other_")}
         marks = [(order.packet.row, where.direction, abs(order.place - (order.passage.place(0) or 0)))]
         yield Remark("E18", where, sentence, None, values, compared=compared, marks=marks)
-
-
-def _lengths(orders: Sequence[Order]) -> Iterator[Remark]:
-    """The announcements of one place whose L_ACKLEVELTR is not the most frequent one."""
-    announced = [order for order in orders if not order.is_now]
-    counts = Counter((order.place, *_acknowledged(order)) for order in announced)
-    for order in announced:
-        others = [each for each in announced if (each.place, each.levels) == (order.place, order.levels)]
-        usual = max(others, key=lambda each: counts[(each.place, *_acknowledged(each))])
-        for place, (own, other) in enumerate(zip(_acknowledged(order), _acknowledged(usual))):
-            if own != other:
-                words = f"L_ACKLEVELTR is {metres(own)}, and {metres(other)} by {source(usual.passage, usual.packet)}"
-                values = {"l_ackleveltr_m": Decimal(own) / 10, "other_l_ackleveltr_m": Decimal(other) / 10}
-                where, compared = order.passage.at(order.packet), [usual.passage.at(usual.packet)]
-                made = Remark("E18", where, words, None, values, compared=compared)
-                row = order.packet.row
-                fields = [(row.number, order.packet.place, "l_ackleveltr", place)] if row else []
-                yield made._replace(blamed=fields)
-
-
-def _acknowledged(order: Order) -> Sequence[int]:
-    """Each L_ACKLEVELTR in decimetres."""
-    return [each["l_ackleveltr"] * order.packet.unit for each in order.packet.form["transitions"]]
 
 
 def _unordered(decoded: Decoded, part: Sequence[Order], usual: Order, unknown: Unknown) -> Iterator[Remark]:

@@ -7,6 +7,12 @@ of its own. The rule rests on SUBSET-026, 3.11.5 and 7.4.2.
   are reported too, because the second one that a train gets takes the place of the first one.
 - One restriction: packets 65 with the same place, length and speed describe one restriction. If their NID_TSR or
   Q_FRONT differ, the rarer value is reported.
+- Both directions: packets 65 with one NID_TSR for trains of both directions of a track must restrict the same stretch
+  to the same speed. If they are the only ones with a NID_TSR for both directions that differ, they are reported if
+  their stretches overlap. They are also reported if four times as many agree. Otherwise they are counted as not
+  compared.
+- No number: packets 65 with NID_TSR 255 of two groups must agree, if they begin at most 200 m from each other. They are
+  reported if they differ in only one of place, L_TSR and V_TSR, and if each telegram has at most one of them.
 - No restriction: a packet 65 is reported if its L_TSR is 0. It is also reported if its V_TSR is above each V_STATIC and
   V_DIFF of a table with at least five packets 27.
 - No revocation: a packet 66 is reported if it has NID_TSR 255, which nothing can revoke. It is also reported if a
@@ -14,6 +20,8 @@ of its own. The rule rests on SUBSET-026, 3.11.5 and 7.4.2.
 - Nothing to revoke: a packet 66 is reported if no packet 65 for trains of the same way has its NID_TSR. A packet whose
   way is not known counts for both ways. This fault is only looked for if the table or the messages have a packet 65
   that can be revoked.
+- No end: if no packet 65 has the NID_TSR of a packet 66, and just one packet 65 for these trains has NID_TSR 255, that
+  packet 65 is reported instead of the packet 66.
 - The rule compares packets 65 on one track, for trains that run the same way, whichever groups send them. Each
   restriction must begin at most 20 km from the next one. A restriction is counted as not compared if all others with
   its NID_TSR are farther away.
@@ -35,18 +43,19 @@ km 14.000, both for 500 m with 40 km/h. After: Signal 4 has no packet 65, becaus
 When it is a false alarm. The rule assumes that each NID_TSR belongs to one restriction only. Two restrictions might
 have the same number, if one of them is on another route. The same holds if each train has forgotten the first
 restriction before it gets the second one, for example because a packet 66 revoked it. It assumes that all packets state
-the complete restriction exactly. D_TSR or L_TSR might be on the safe side, or might depend on the aspect or the route.
-It assumes that each packet 65 restricts trains, although a template might hold one ready without a length or with a
-great speed. It assumes that the table has the packet 65 for each packet 66, as soon as it has any. The packet 65 might
-be in a group that is laid for some weeks, or come by radio. {kilometres} {missing} {one way}
+the complete restriction exactly. The speed of a restriction might depend on the direction. D_TSR or L_TSR might be on
+the safe side, or might depend on the aspect or the route. It assumes that each packet 65 restricts trains, although a
+template might hold one ready without a length or with a great speed. It assumes that the table has the packet 65 for
+each packet 66, as soon as it has any. The packet 65 might be in a group that is laid for some weeks, or come by radio.
+A packet 65 with NID_TSR 255 might be meant to last. {kilometres} {missing} {one way}
 
 Usual cause. D_TSR was not generated again for the second group, a restriction was changed in one group only, or an
 NID_TSR was typed wrongly.
 
 How to correct it. Correct D_TSR, L_TSR and V_TSR according to the list of restrictions.
 
-How to accept it. Name both restrictions in the list of restrictions, or the route of this restriction. For a packet 66,
-name what else sends the restriction.
+How to accept it. Name both restrictions in the list of restrictions, or the route or direction of this restriction. For
+a packet 66, name what else sends the restriction.
 
 How sure. 86 %, by practice and memory of the standard.
 """
@@ -59,6 +68,7 @@ from balisekit.etcs.variables import Values
 from balisekit.rules.decoded import Decoded
 from balisekit.rules.line import Line
 from balisekit.rules.meaning.along import Lane, parts, passed_over
+from balisekit.rules.meaning.opposite_restrictions import OPPOSITE, opposite_restrictions, without_number
 from balisekit.rules.meaning.restrictions import Restriction, descriptions_of, is_rest, most_frequent, restrictions_of
 from balisekit.rules.meaning.revocations import NOT_REVOCABLE, RESTRICTION, without_effect, without_restriction
 from balisekit.rules.meaning.words import merged, source
@@ -85,6 +95,9 @@ def find(line: Line, options: Options) -> Result:
             left[FAR] += is_alone
             looked_at += 0 if is_alone else len(part)
             found += [each for each in _compare(decoded, options, part) if _packet_of(each) not in named]
+    opposite = opposite_restrictions(decoded, options)
+    left[OPPOSITE] = opposite.left
+    found += [*opposite.found, *without_number(decoded, options)]
     found += [*without_effect(decoded, options.greatest_speed // 5), *without_restriction(decoded)]
     looked_at = max(looked_at - described.left, 0)
     return Result.of_places(merged(found), looked_at, passed_over(decoded, _is_restriction), +left)

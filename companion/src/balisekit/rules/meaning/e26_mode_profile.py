@@ -2,12 +2,14 @@
 
 What it says. A packet 80 (mode profile) asks for a mode that its own message does not allow. The proved program does
 not decode packet 80: balisekit decodes it by a layout of its own. The rule rests on SUBSET-026, 3.12.4 and 7.4.2. The
-first four items are the faults that it reports.
+first five items are the faults that it reports.
 - The message has no packet 12 or 15 for the direction of the packet 80.
 - The first mode begins at or beyond the end of each authority of this direction, by its D_MAMODE. At the end means
   within `--tolerance` (default 1 m) and rounding. Later modes are not compared with the end.
 - A V_MAMODE for on sight or shunting is above 100 km/h, and is not the national value.
 - The L_MAMODE of a mode is 0.
+- The D_MAMODE of the first mode is another one at one signal than at all others, of which there are at least three, and
+  which all have the same one. Only modes of one M_MAMODE are compared.
 - A first mode that begins at the end is not reported if it is shunting, or if V_LOA is above 0. The same holds if the
   authority has no length, as at a stop aspect.
 - A packet 80 after a packet 136 is compared only with the authorities after this packet 136.
@@ -19,11 +21,13 @@ Example. Before (`examples/meaning/mistakes/E26.csv`): at "yellow" of Signal 3 (
 the group, and the authority ends 1,500 m from it. After: on sight begins at the group, with D_MAMODE 0.
 
 When it is a false alarm. The rule assumes that a mode profile belongs to an authority of the same message. A project
-might send it in a message of its own, such as by radio. The rule also assumes that V_MAMODE is the speed at which
-trains run in this mode. A project might send a great V_MAMODE if another limit restricts these trains anyway. The rule
-also assumes that a packet 80 with Q_DIR 2 is for both directions. A project might send it at a signal for one
-direction, where its message has no authority for the other one. It also assumes that each mode has a length. A project
-might send L_MAMODE 0 for shunting, because a train in shunting does not supervise the end of the area.
+might send it in a message of its own, such as by radio. It assumes that a mode begins at the same distance from each
+signal, if it does so at three other ones. One signal might be far in rear of its station. The rule also assumes that
+V_MAMODE is the speed at which trains run in this mode. A project might send a great V_MAMODE if another limit restricts
+these trains anyway. The rule also assumes that a packet 80 with Q_DIR 2 is for both directions. A project might send it
+at a signal for one direction, where its message has no authority for the other one. It also assumes that each mode has
+a length. A project might send L_MAMODE 0 for shunting, because a train in shunting does not supervise the end of the
+area.
 
 Usual cause. D_MAMODE was counted from another signal, or has a wrong Q_SCALE. Or V_MAMODE was given in km/h instead of
 steps of 5 km/h.
@@ -42,6 +46,7 @@ from typing import Any, Iterator, List, Sequence, Tuple
 
 from balisekit.etcs.variables import metres
 from balisekit.rules.line import Line
+from balisekit.rules.meaning.mode_begins import MODES, unlike_begins
 from balisekit.rules.meaning.sent import Fault, distance, kmh, remark, speed, tolerance
 from balisekit.rules.meaning.words import merged
 from balisekit.rules.passages import Passage
@@ -49,8 +54,8 @@ from balisekit.rules.rule import Options, Remark, Result, Rule, Urgency
 from balisekit.rules.telegrams import AUTHORITIES, Packet
 from balisekit.tables.names import ordinal
 
-MODES, FASTEST, NATIONAL = 80, 20, 127
-"""NID_PACKET of a mode profile, and as they are sent: 100 km/h, and the V_MAMODE of the national values."""
+FASTEST, NATIONAL = 20, 127
+"""As they are sent: 100 km/h, and the V_MAMODE of the national values."""
 SHUNTING = 1
 SLOW = {0: "on sight", SHUNTING: "shunting"}
 """The modes in which the driver looks out, by M_MAMODE."""
@@ -71,6 +76,9 @@ def find(line: Line, options: Options) -> Result:
                     found += _look_at(options, passage, packet, packets)
                 else:
                     left += 1
+    named = {(each.location.row, each.location.packet) for each in found if "d_mamode_m" in each.values}
+    others = unlike_begins(line.decoded)
+    found += (each for each in others if (each.location.row, each.location.packet) not in named)
     return Result(merged(found), count, {NOT_DECODED: left} if left else {})
 
 

@@ -7,15 +7,18 @@ them by layouts of its own. The rule rests on SUBSET-026, 3.5, 3.15.1 and 7.5.1.
   and it is allowed.
 - Two numbers: packets for the same NID_C and NID_RBC have different NID_RADIO.
 - Two centres: packets with the same NID_RADIO have different NID_C or NID_RBC.
-- Borders: packets 131 give different places or different RBC, although their places are at most 500 m apart. Only
-  packets for trains that run the same way on the same track are compared. Places may differ by `--tolerance` (default 1
-  m) and rounding.
+- Borders: packets 131 give different RBC, although their places are at most 500 m apart. Or they give different places
+  for one RBC, however far these are apart. Only packets for trains that run the same way on the same track are
+  compared. Places may differ by `--tolerance` (default 1 m) and rounding.
+- Places more than 500 m apart are not compared in two cases. A packet 42 or 131 between them names another RBC, so that
+  trains leave the first RBC and come back. Or packets 5 lead to another track before the place, which is counted.
+- A packet 131 with D_RBCTR 0 or 32,767 (now) is for the place of its group. It is not reported if two other packets, or
+  another "now", give the border for its RBC in rear of it. Then it repeats the order.
 - The most frequent number, RBC or place counts as right, and the other packets are reported. Of equally frequent
   numbers or RBC, the first one counts as right: packets 42 in the order of the table come first, then packets 131. Of
-  equally frequent borders, the border at the lowest kilometre counts as right.
+  equally frequent borders, that of a packet with "now" counts as right, and then the border at the lowest kilometre.
 - A number is not compared with other packets if it is the short number or no telephone number. It is not compared
   either if its packet has Q_RBC 0, or NID_RBC 16,383 (the RBC that was known last).
-- The place of a packet 131 is not compared if D_RBCTR is 32,767 (now).
 
 Why it matters. At worst the train brakes without need. The train calls a wrong number or a wrong RBC, and has no
 movement authority at the border.
@@ -25,7 +28,9 @@ number 0123465789, and 2 other packets give it 0123456789. After: all packets ha
 
 When it is a false alarm. The rule assumes that each RBC has one telephone number. An RBC might have several numbers,
 such as one for each of two radio networks. Two RBC might share a number during a change of systems. The rule assumes
-that packets 131 within 500 m are for one border. There might be two borders, one of them on another route. {kilometres}
+that packets 131 within 500 m are for one border. There might be two borders, one of them on another route. It assumes
+that trains change to an RBC at one place of a track. They might come back to it after a part without packets 42 and
+131. {kilometres}
 
 Usual cause. A digit of the number was typed wrongly, or NID_RADIO, NID_RBC or D_RBCTR was changed in one group only.
 
@@ -46,15 +51,15 @@ from balisekit.rules.decoded import Owner
 from balisekit.rules.facts import counted, origin
 from balisekit.rules.line import Line
 from balisekit.rules.meaning.along import passed_over
-from balisekit.rules.meaning.radio_borders import TRANSITION, Centre, borders, centre_words
+from balisekit.rules.meaning.radio_borders import SESSION, TRANSITION, Centre, borders, centre_words
 from balisekit.rules.meaning.sent import Fault, located, remark, sent
 from balisekit.rules.meaning.words import merged
 from balisekit.rules.rule import Options, Remark, Result, Rule, Urgency
 from balisekit.rules.telegrams import Packet
 from balisekit.tables.names import rows_words
 
-SESSION, LAST_KNOWN = 42, 16_383
-"""NID_PACKET of session management, and NID_RBC of the RBC that was known last."""
+LAST_KNOWN = 16_383
+"""NID_RBC of the RBC that was known last."""
 NOT_DECODED = "not decoded"
 SHORT, NUMBER = "f" * 16, expression("[0-9]+f*")
 
@@ -94,15 +99,15 @@ class Call(NamedTuple):
 def find(line: Line, options: Options) -> Result:
     """Compares the numbers of the whole table, and the borders of each track."""
     calls = [Call(*each) for each in sent(line.decoded, SESSION, TRANSITION) if "nid_radio" in each[1].form]
+    of_borders = borders(line.decoded, options)
     found = [
         *_wrong_digits(calls),
         *_unlike(calls, lambda each: each.centre, lambda each: each.digits, _number_words),
         *_unlike(calls, lambda each: each.digits, lambda each: each.centre, _centre_words),
-        *borders(line.decoded, options),
+        *of_borders.found,
     ]
-    left = Counter(call.left for call in calls if call.left) + passed_over(
-        line.decoded, lambda each: each.number == TRANSITION
-    )
+    lacks = passed_over(line.decoded, lambda each: each.number == TRANSITION)
+    left = Counter(call.left for call in calls if call.left) + Counter(of_borders.left) + lacks
     left[NOT_DECODED] = sum("nid_radio" not in packet.form for _, packet in sent(line.decoded, SESSION, TRANSITION))
     return Result(merged(found), len(calls) - sum(bool(call.left) for call in calls), +left, is_optional=True)
 

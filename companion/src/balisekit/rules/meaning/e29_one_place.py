@@ -10,6 +10,11 @@ SUBSET-026, 3.12.1 and 7.4.2.
   track, and for trains that run the same way.
 - For changes to one traction system (packet 39) and level crossings with one NID_LX (packet 88) the limit is 2 km
   instead of 200 m.
+- Two conditions farther apart look like one too, if they have the same kind and length, and only one group states one
+  of them. All groups that state either of them must be in rear of both, and no telegram may have both. Then one of two
+  things must hold. Either several groups state the other condition, the first of them in rear of this group. Or the
+  conditions begin at most 2 km apart, with no group for these trains between them. Big metal masses (packet 67) and
+  places to sound the horn (M_TRACKCOND 2) are excepted, because a track may have several that are alike.
 - The place and length that most groups give count as right, and each other place or length is reported. If several are
   equally frequent, those at the lowest kilometre count as right.
 - Two messages might state different kinds at the same place with the same length. The kind that most groups state
@@ -28,9 +33,9 @@ Example. Before (`examples/meaning/mistakes/E29.csv`): Signal 4 (km 14.500) has 
 has it at km 15.500, both for 300 m. After: both have it at km 15.500.
 
 When it is a false alarm. The rule assumes that conditions of one kind within 200 m are one condition. Two short
-conditions might follow each other, and each group might send only one of them. It assumes that all packets state the
-condition exactly. A packet might state a longer condition on purpose, to be on the safe side. {leaving} {kilometres}
-{missing} {one way}
+conditions might follow each other, and each group might send only one of them. The same holds for equal conditions of
+one section. It assumes that all packets state the condition exactly. A packet might state a longer condition on
+purpose, to be on the safe side. {leaving} {kilometres} {missing} {one way}
 
 Usual cause. A distance was not generated again for the second group, or the condition was moved and one group was
 forgotten.
@@ -55,7 +60,8 @@ from balisekit.etcs.variables import metres
 from balisekit.rules.decoded import tolerance_of_lengths
 from balisekit.rules.line import Line
 from balisekit.rules.meaning.along import parts, passed_over
-from balisekit.rules.meaning.conditions import LAYOUTS, Condition, conditions_of
+from balisekit.rules.meaning.conditions import LAYOUTS, Condition, conditions_of, of_messages
+from balisekit.rules.meaning.far_conditions import far_places
 from balisekit.rules.meaning.one_kind import of_two_kinds
 from balisekit.rules.meaning.sent import sent
 from balisekit.rules.meaning.words import at_place, merged, source
@@ -75,6 +81,9 @@ def find(line: Line, options: Options) -> Result:
         near = LAYOUTS[kind[0]].near
         for part in parts(sorted(some, key=lambda each: each.place), near):
             found += _compare(line, options, part, near)
+        agree, both = partial(_agree, line, options), partial(_has_both, line, options, of_messages(some))
+        far = far_places(line.decoded, kind, some, agree, both) if len(some) > 1 else ()
+        found += [_remark(line, each, usual) for each, usual in far]
     found += of_two_kinds(line.decoded, trusted, partial(_agree, line, options))
     lacks = passed_over(line.decoded, lambda packet: packet.number in trusted)
     return Result.of_places(merged(found), looked_at, lacks, +Counter(_left(line, trusted)))
@@ -107,35 +116,28 @@ def _compare(line: Line, options: Options, some: Sequence[Condition], near: int)
     for each in some:
         firsts.setdefault(each.says, each)
         groups.setdefault(each.says, set()).add(id(each.passage.group or each.passage.message))
-    several = list(_of_messages(some)) if len(firsts) > 1 else []
+    several = of_messages(some) if len(firsts) > 1 else []
     order = {says: (-len(groups[says]), place) for place, says in enumerate(firsts)}
     for each in some:
         better = [one for one in firsts.values() if order[one.says] < order[each.says]]
         better = [one for one in better if abs(one.place - each.place) <= near]
         usual = min(better, key=lambda one: order[one.says], default=None)
         if usual and not _agree(line, options, each, usual):
-            if not any(_has_both(line, options, own, each, usual) for own in several):
+            if not _has_both(line, options, several, each, usual):
                 yield _remark(line, each, usual)
 
 
-def _of_messages(some: Sequence[Condition]) -> Iterator[Sequence[Condition]]:
-    """The conditions of each message that has several: a packet of a fixed balise is in those of all aspects."""
-    senders: Dict[int, List[Condition]] = {}
-    for each in some:
-        senders.setdefault(id(each.passage.message or each.passage.group), []).append(each)
-    for own in senders.values():
-        first = own[0].passage
-        messages = [first] if first.message or not first.group else first.group.passages
-        for said in ({id(packet) for packet in each.said} for each in messages if len(own) > 1):
-            yield [each for each in own if id(each.packet) in said]
-
-
-def _has_both(line: Line, options: Options, own: Sequence[Condition], one: Condition, other: Condition) -> bool:
+def _has_both(
+    line: Line, options: Options, several: Sequence[Sequence[Condition]], one: Condition, other: Condition
+) -> bool:
     """Whether a message has both conditions, so that they are two."""
-    like_one, like_other = (
-        {index for index, each in enumerate(own) if _agree(line, options, each, wanted)} for wanted in (one, other)
-    )
-    return any(first != second for first in like_one for second in like_other)
+    for own in several:
+        like_one, like_other = (
+            {index for index, each in enumerate(own) if _agree(line, options, each, wanted)} for wanted in (one, other)
+        )
+        if any(first != second for first in like_one for second in like_other):
+            return True
+    return False
 
 
 def _agree(line: Line, options: Options, one: Condition, other: Condition) -> bool:

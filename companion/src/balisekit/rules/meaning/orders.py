@@ -1,4 +1,4 @@
-"""The orders of level transitions, packets 41, at their places."""
+"""The orders of level transitions, packets 41 and 46, at their places."""
 from __future__ import annotations
 
 from collections import Counter
@@ -15,8 +15,9 @@ from balisekit.rules.passages import Passage
 from balisekit.rules.telegrams import LEVELS, Packet
 from balisekit.tables.decimals import whole
 
-BOTH_DIRECTIONS, NOW, NEAR = 2, 32_767, 5000
-"""Q_DIR, D_LEVELTR for at once, and in decimetres how near two announcements of one transition are."""
+CONDITIONAL, BOTH_DIRECTIONS, NOW, NEAR = 46, 2, 32_767, 5000
+"""NID_PACKET of a conditional order, Q_DIR, D_LEVELTR for at once, and in decimetres how near two announcements of one
+transition are."""
 
 
 class Order(NamedTuple):
@@ -76,6 +77,18 @@ def orders_of(decoded: Decoded) -> Dict[Lane, List[Order]]:
                 own = found.setdefault((passage.track, way), {})
                 own[id(packet), passage.direction] = Order(place, way, passage, packet)
     return {lane: sorted(own.values(), key=lambda each: each.place) for lane, own in found.items()}
+
+
+def conditional_orders(decoded: Decoded) -> Dict[Lane, List[Order]]:
+    """The packets 46 of each track and way: each once. They are for the places of their groups."""
+    found: Dict[Lane, Dict[Tuple[int, str], Order]] = {}
+    for passage in decoded.passages:
+        place = passage.place(0)
+        for packet in passage.of(CONDITIONAL) if passage.way and place is not None else ():
+            if "transitions" in packet.form:
+                own = found.setdefault((passage.track, passage.way or 0), {})
+                own[id(packet), passage.direction] = Order(place or 0, passage.way or 0, passage, packet)
+    return {lane: list(own.values()) for lane, own in found.items()}
 
 
 def unplaced_orders(decoded: Decoded) -> Counter[str]:

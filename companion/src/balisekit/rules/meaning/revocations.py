@@ -6,6 +6,7 @@ from typing import Any, Dict, Iterator, List, Optional, Set, Tuple
 
 from balisekit.rules.decoded import Decoded, Owner
 from balisekit.rules.facts import counted, origin
+from balisekit.rules.location import Location
 from balisekit.rules.meaning.sent import Fault, kmh, located, remark, sent, speed
 from balisekit.rules.passages import GroupData
 from balisekit.rules.rule import Remark
@@ -47,22 +48,39 @@ def _greatest(decoded: Decoded) -> Optional[int]:
 
 def without_restriction(decoded: Decoded) -> Iterator[Remark]:
     """Packets 66 that revoke nothing."""
-    ordered = [(owner, packet) for owner, packet in sent(decoded, RESTRICTION) if _number(packet) < NOT_REVOCABLE]
+    every = list(sent(decoded, RESTRICTION))
+    ordered = [(owner, packet) for owner, packet in every if _number(packet) < NOT_REVOCABLE]
+    endless = [each for each in every if each[1].form.get("nid_tsr") == NOT_REVOCABLE]
     ways: Dict[int, Ways] = {}
     for owner, packet in ordered:
         ways.setdefault(_number(packet), set()).update(_ways(owner, packet))
-    facts = [counted(f"{origin(located(*each))} {_number(each[1])} {_ways(*each)}" for each in ordered)]
+    facts = [counted(f"{origin(located(*each))} {_number(each[1])} {_ways(*each)}" for each in [*ordered, *endless])]
     revocations = [(owner, packet) for owner, packet in sent(decoded, REVOCATION) if "nid_tsr" in packet.form]
     revoked = {_number(packet) for _, packet in revocations}
     left = [located(*each) for each in ordered if _number(each[1]) not in revoked]
     for owner, packet in revocations:
         words = _fault(owner, packet, ordered, ways)
-        if words:
+        lasting = [each for each in endless if _meet(_ways(*each), _ways(owner, packet))]
+        if len(lasting) == 1 and (words == _no_packet(packet) or not words and not ordered):
+            yield _lasting(*lasting[0], located(owner, packet), packet)._replace(facts=facts)
+        elif words:
             rows = [where.row.number for where in left if where.row and len(left) == 1 and _number(packet) not in ways]
             words += f", and nothing revokes the one in {rows_words(rows)}" if rows else ""
             values = {"nid_tsr": Decimal(_number(packet))}
             made = remark("E22", located(owner, packet), [Fault(words, values, [("nid_tsr", None)])])
             yield made._replace(facts=facts, compared=left if rows else ())
+
+
+def _lasting(owner: Owner, packet: Packet, revoking: Location, revocation: Packet) -> Remark:
+    """A remark on a packet 65 that nothing can revoke, beside a packet 66 that revokes nothing."""
+    where = f" in {rows_words([revoking.row.number])}" if revoking.row else ""
+    words = (
+        f"NID_TSR is {NOT_REVOCABLE}, which nothing can revoke, although the packet 66{where} revokes "
+        f"{_number(revocation)}, which no packet 65 of the table has"
+    )
+    values = {"nid_tsr": Decimal(NOT_REVOCABLE), "revoked_nid_tsr": Decimal(_number(revocation))}
+    made = remark("E22", located(owner, packet), [Fault(words, values, [("nid_tsr", None)])])
+    return made._replace(compared=[revoking])
 
 
 def _fault(owner: Owner, packet: Packet, ordered: List[Tuple[Owner, Packet]], ways: Dict[int, Ways]) -> str:
@@ -75,12 +93,22 @@ def _fault(owner: Owner, packet: Packet, ordered: List[Tuple[Owner, Packet]], wa
         return f"it revokes the restriction {number} of its own telegram"
     if not ordered:
         return ""
-    known, own = ways.get(number, set()), _ways(owner, packet)
+    known = ways.get(number, set())
     if not known:
-        return f"NID_TSR is {number}, and no packet 65 of the table has it"
-    if None in known | own or known & own:
+        return _no_packet(packet)
+    if _meet(known, _ways(owner, packet)):
         return ""
     return f"NID_TSR is {number}, and only packets 65 for trains of the other direction have it"
+
+
+def _no_packet(packet: Packet) -> str:
+    """That no packet 65 has the number of a packet 66."""
+    return f"NID_TSR is {_number(packet)}, and no packet 65 of the table has it"
+
+
+def _meet(one: Ways, other: Ways) -> bool:
+    """Whether some trains may get both."""
+    return None in one | other or bool(one & other)
 
 
 def _number(packet: Packet) -> int:
