@@ -32,8 +32,8 @@ MISTAKES = sorted([*EXAMPLES.glob("links/*.csv"), *EXAMPLES.glob("meaning/mistak
 MOST_BALISES, USER_BITS = 8, 830
 TRIED = 3
 """How many changes of a packet are tried that leave the sentence as it is."""
-ONLY_NAMED = (("E10", 5), ("E25", 5))
-"""Packets that only show where aspects lead, or which group a sentence names: another link changes nothing in it."""
+SHOWN = (("E10", 5), ("E12", 5), ("E13", 5), ("E25", 5))
+"""Packets that only show where trains go. If they go elsewhere, the sentence is another one."""
 NAMES = re.compile("[A-Z]+_[A-Z0-9_]+")
 Form = Any
 Line = List[Tuple[Cells, Form]]
@@ -133,12 +133,12 @@ def not_covered(program: Program, path: Path, line: Line) -> List[str]:
     wrong = []
     for at, (cells, form) in enumerate(line):
         for place, packet in enumerate(form["packets"]):
-            own = {key for key, (_, _, some) in first.items() if any(cells["group"] in _groups(each) for each in some)}
+            own = {key for key, (_, _, some) in first.items() if any(_is_of(each, cells) for each in some)}
             without = found(program, path, changed(line, at, place, None)) if own else None
             if without is None:
                 continue
             changes = [key for key in own if key not in without or without[key][1] != first[key][1]]
-            resting = [key for key in changes if (key[0], packet["nid_packet"]) not in ONLY_NAMED]
+            resting = [key for key in changes if (key[0], packet["nid_packet"]) not in SHOWN]
             wrong += [
                 f"{key[0]}: {name} of packet {packet['nid_packet']}, row {at + 2}: {first[key][1]}"
                 for name, key in _accepted(program, path, (line, at, place), first, resting)
@@ -149,6 +149,13 @@ def not_covered(program: Program, path: Path, line: Line) -> List[str]:
 def _groups(remark: Remark) -> Sequence[str]:
     """The group at which a remark is."""
     return [remark.location.group.group.name] if remark.location.group else []
+
+
+def _is_of(remark: Remark, cells: Cells) -> bool:
+    """Whether a row is of the group and aspect of a remark."""
+    row = remark.location.row
+    aspects = {*remark.aspects, *([row.aspect] if row else [])}
+    return cells["group"] in _groups(remark) and (not aspects or cells["aspect"] in aspects)
 
 
 def _accepted(
@@ -199,6 +206,12 @@ def test_the_links_of_a_section_are_covered(program: Program, tmp_path: Path) ->
     line = apart(example(program, path))
     link = {"d_link": 500, "nid_bg": 4, "q_linkorientation": 1, "q_linkreaction": 2, "q_locacc": 5}
     assert not stays(program, tmp_path / "t.csv", "E30", line, 5, {"links": [link]})
+
+
+def test_the_packet_136_of_infill_is_covered(program: Program, tmp_path: Path) -> None:
+    """E15: the packet 136 is in another balise than the packet 12, and is for both directions afterwards."""
+    line = apart(example(program, EXAMPLES / "meaning/mistakes/E15.csv"))
+    assert not stays(program, tmp_path / "t.csv", "E15", line, 136, {"q_dir": 2})
 
 
 @pytest.mark.slow

@@ -150,6 +150,7 @@ def _differences(signal: Optional[Passage], passage: Passage, target: GroupData)
                 facts += [f"{number} {each.name} {each.own} {each.other}" for each in differing]
                 fields += [*apart.field_of(packet), *apart.field_of(other)]
     if first is not None:
+        compared += [passage.at(each) for each in [passage.reference] if each and each.row is not first.row]
         made = Remark("E15", passage.at(first), "; ".join(words), target.group, values, beside=fields)
         yield made._replace(compared=compared, facts=facts)
 
