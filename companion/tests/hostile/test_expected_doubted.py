@@ -68,7 +68,8 @@ def test_infill_with_one_of_two_profiles(run: Run, program: Program, tmp_path: P
         form["packets"].pop()
 
     path = written(program, tmp_path / "t.csv", INFILL, halved)
-    own = [each for each in entries(run, path) if "yellow" in _aspects(path, each) and "Infill" in (each["group"] or "")]
+    found = [each for each in entries(run, path) if each["group"] == "Infill of Signal 4"]
+    own = [each for each in found if "yellow" in _aspects(path, each)]
     assert "F13" in {rule for each in own for rule in each["rules"]}
     assert not any(each["expected"] for each in own), [each["expected"] for each in own]
 
