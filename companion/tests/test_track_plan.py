@@ -33,6 +33,7 @@ from balisekit.rules.line import Line as LineOfTable
 from balisekit.rules.rule import Options, Remark, Result
 from balisekit.rules.track_plan import implied_profiles
 from balisekit.rules.track_plan.implied import implied
+from balisekit.rules.track_plan.x5_borders import UNSURE
 from balisekit.tables import messages as messages_file, plan, reader
 
 Change = Callable[[List[Row]], Any]
@@ -548,7 +549,7 @@ def test_x5_of_a_border_whose_direction_is_not_known(program: Program, tmp_path:
     rows = [{**dict.fromkeys(plan.COLUMNS, ""), "kind": "level", "km": "16.700", "way": "rising", "value": "0"}]
     line = read(program, written(program, tmp_path / "t.csv", SOUND["level-border"], only_at_the_border))
     result = results(line, rows, tmp_path)["X5"]
-    assert not result.found and result.not_looked_at == {"no kilometre or direction": 1}
+    assert not result.found and result.not_looked_at == {"no kilometre or direction": 1, UNSURE: 1}
 
 
 def test_x5_of_packets_that_are_not_decoded(
@@ -558,7 +559,7 @@ def test_x5_of_packets_that_are_not_decoded(
     monkeypatch.setattr(telegrams, "FIELDS_OF", lambda packet: None)
     line = read(program, tmp_path / "t.csv")
     result = results(line, sound[1], tmp_path)["X5"]
-    assert not result.found and result.looked_at == 3 and result.not_looked_at == {"not decoded": 3}
+    assert not result.found and result.looked_at == 3 and result.not_looked_at == {"not decoded": 3, UNSURE: 1}
     assert implied(line, Options()).notes == ["3 packets are not in the plan: not decoded"]
 
 

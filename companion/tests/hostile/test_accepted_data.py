@@ -188,6 +188,7 @@ def test_a_message_with_the_name_star_has_none(run: Run, table: Write, tmp_path:
         ({"reason": "\u200b"}, "no reason"),
         ({"reason": "\u3164 \u00ad"}, "no reason"),
         ({"reason": "---"}, "no reason"),
+        *[({"reason": reason}, "no reason") for reason in ("n/a", "N.A.", "-", "tbd", "T.B.C.", "?", "none", "xxx")],
         ({"who": "\u2060"}, "no who"),
         ({"date": "2999-01-01"}, "date 2999-01-01 is after the day of the run, 2026-05-28"),
         ({"date": "2026-05-30"}, "date 2026-05-30 is after the day of the run, 2026-05-28"),

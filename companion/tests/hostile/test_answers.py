@@ -440,3 +440,15 @@ def test_a_reader_that_stops(tmp_path: Path) -> None:
     count = len((tmp_path / "pids").read_text().split())
     time.sleep(0.3)
     assert count < 1500 and count == len((tmp_path / "pids").read_text().split())
+
+
+def test_memory_that_is_refused_while_a_table_is_read(run: Run, table: Write, monkeypatch: pytest.MonkeyPatch) -> None:
+    """The line is a sentence that names what can be done."""
+
+    def refuse(*_: object, **__: object) -> None:
+        raise MemoryError
+
+    monkeypatch.setattr("balisekit.tables.csv.read", refuse)
+    why = "the system refused memory, so there is no answer: give the process more, or check fewer rows at a time"
+    status, out, err = run("check", table("group,telegram", f"A,{ALONE}"))
+    assert (status, out) == (3, []) and err[-1].endswith(f"balisekit: {why}"), err

@@ -3,12 +3,15 @@ from __future__ import annotations
 
 import json
 import re
+import time
 from pathlib import Path
 from typing import Any, Callable, Dict, List, Match
 
 import pytest
 from conftest import Run
 from telegrams import ALONE, OTHER
+
+from balisekit.tables.unread_digits import digits_in_rows
 
 Write = Callable[..., Path]
 _LINES = Path(__file__).with_name("unread_digits.txt").read_text("utf-8").splitlines()
@@ -87,3 +90,15 @@ def test_above_the_headings(line: str, table: Write, run: Run) -> None:
     why = "it has digits as a telegram has, and is not below the headings"
     status, _, err = run("check", path)
     assert status == 2 and err[0].startswith(f"balisekit: {path}: row 1: {why}")
+
+
+@pytest.mark.uncovered
+def test_rows_of_signs_take_no_more_time_each() -> None:
+    """A column of dashes with one letter below them: four times as many rows take about four times as long."""
+
+    def seconds(rows: int) -> float:
+        begin = time.process_time()
+        assert digits_in_rows([*["-"] * rows, "x f"]) == {}
+        return time.process_time() - begin
+
+    assert min(seconds(16_000) for _ in range(3)) < 0.5  # (with squares of rows they take 20 s)

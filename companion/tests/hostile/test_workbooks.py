@@ -726,3 +726,23 @@ def test_mistakes_of_balisekit_are_not_blamed_on_the_workbook(table: Write, monk
     monkeypatch.setattr("balisekit.tables.xlsx._text", lambda value: 1 / 0)
     with pytest.raises(ZeroDivisionError):
         tables.read(str(path))
+
+
+@pytest.mark.parametrize("with_cells", [False, True])
+def test_a_chart_sheet_without_a_chart(tmp_path: Path, with_cells: bool) -> None:
+    """It has no cells: no reason is a name of an exception, and beside a sheet with cells it is only named."""
+    openpyxl = pytest.importorskip("openpyxl")
+    book = openpyxl.Workbook()
+    book.create_chartsheet("Chart")
+    if with_cells:
+        for cells in (("group", "telegram"), ("A", ALONE)):
+            book.active.append(cells)
+    else:
+        book.remove(book.active)
+        book.active = 0
+    path = tmp_path / "chart.xlsx"
+    book.save(path)
+    if with_cells:
+        assert [row.telegram for row in tables.read(str(path)).rows] == [ALONE]
+    else:
+        assert refusal(path) == "the workbook has no sheet with cells"

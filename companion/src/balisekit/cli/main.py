@@ -218,7 +218,7 @@ def _without_collector(ends: bool) -> Iterator[None]:
 def _reason(error: BaseException) -> str:
     """Why there is no answer."""
     if isinstance(error, MemoryError):
-        return "memory"
+        return "the system refused memory, so there is no answer: give the process more, or check fewer rows at a time"
     if isinstance(error, OSError):
         place = "standard output or a temporary file" if error.filename is None else str(error.filename)
         return f"{place}: {error.strerror or error}"

@@ -54,6 +54,8 @@ FINDINGS = range(1, 17)
 """The numbers of the program's findings F."""
 RULES: Mapping[str, Rule] = {rule.name: rule for rule in (*links.RULES, *meaning.RULES, *track_plan.RULES)}
 """All rules of balisekit whose remarks can be accepted, by their names."""
+NO_REASONS = frozenset({"na", "tba", "tbc", "tbd", "todo", "none", "nil", "x", "xx", "xxx"})
+"""The letters of what people write instead of a reason, such as `n/a`."""
 OF_FAMILIES = "{}, {} and {}".format(*map(first_to_last, (links.RULES, meaning.RULES, track_plan.RULES)))
 OF_PROGRAM = [f"F{number}" for number in FINDINGS]
 VALUES = {
@@ -128,7 +130,8 @@ class Acceptance(NamedTuple):
 
     def faults(self, day: datetime.date) -> List[str]:
         """Why it accepts nothing, whatever the data are."""
-        faults = [f"no {name}" for name, value in (("reason", self.reason), ("who", self.who)) if not _is_text(value)]
+        faults = [] if _is_text(self.reason) and not _stands_in(self.reason) else ["no reason"]
+        faults += [] if _is_text(self.who) else ["no who"]
         faults += [] if self.date else ["no date"]
         if self.date and self.date > day + ONE_DAY:
             faults.append(f"date {self.date} is after the day of the run, {day}")
@@ -290,6 +293,11 @@ def _value(name: str, value: str) -> str:
 def _is_text(value: str) -> bool:
     """Whether there is anything to read."""
     return any(letter.isalnum() and not BLANK.match(letter) for letter in value)
+
+
+def _stands_in(reason: str) -> bool:
+    """Whether a reason is only what people write instead of one."""
+    return "".join(filter(str.isalnum, reason.casefold())) in NO_REASONS
 
 
 def _date(name: str, value: str) -> Optional[datetime.date]:

@@ -251,7 +251,7 @@ def apply(
     able = _able(checked, asked)
     applied = [family for family in able if family.rules or family.letter == PROVED]
     parts = list(_looked_at(checked, applied, options, began))
-    checked = _without_doubtful(checked, [item for part in parts for item in part.items if isinstance(item, Remark)])
+    checked = _without_doubtful(checked, [result for part in parts for result in _results(part)])
     parts = [part._replace(items=checked.findings) if part.family.letter == PROVED else part for part in parts]
     items = [item for part in parts for item in part.items]
     judged = judge(items, checked, *signed, partial(_is_in_full, applied, options)) if signed else None
@@ -272,10 +272,19 @@ def _able(checked: Checked, asked: Sequence[Family]) -> Sequence[Family]:
     return asked if has_kilometres else [_without_kilometres(family) for family in asked]
 
 
-def _without_doubtful(checked: Checked, remarks: Iterable[Remark]) -> Checked:
-    """The same. No finding is called correct data if a remark is about its aspect, its telegram or its message."""
-    doubting = [remark for remark in remarks if remark.rule[0] in DOUBTING]
-    rows = {row for remark in doubting for row in _own_rows(remark)}
+def _results(part: Part) -> Iterable[Result]:
+    """What each rule of a part has found."""
+    return part.applied.results.values() if part.applied else ()
+
+
+def _without_doubtful(checked: Checked, results: Iterable[Result]) -> Checked:
+    """The same. No finding is called correct data if a remark is about its aspect, its telegram or its message.
+
+    The same holds for a row of which a rule is silent only because of such a finding.
+    """
+    some = list(results)
+    doubting = [remark for result in some for remark in result.found if remark.rule[0] in DOUBTING]
+    rows = {row for remark in doubting for row in _own_rows(remark)}.union(*(result.doubted for result in some))
     messages = {where.message.number for remark in doubting for where in remark.everywhere if where.message}
 
     def is_doubted(place: Place) -> bool:
@@ -312,15 +321,15 @@ def _judged_again(checked: Checked, asked: Sequence[Family], options: Options, t
     made = check(checked.program, table, checked.messages, table.reading.by_position, known=known)
     yield Answer(refused=_refused(made))
     line = Line.of(made, options.jumps)
-    remarks: List[Remark] = []
+    results: List[Result] = []
     for family in sorted(
         _able(made, [family for family in asked if family.letter != ADDED]),
         key=lambda each: (each.letter not in DOUBTING, each.letter),
     ):
         if family.letter == PROVED:
-            yield Answer(entries(_without_doubtful(made, remarks)))
+            yield Answer(entries(_without_doubtful(made, results)))
         for rule, result in results_of(line, options, family.rules):
-            remarks += result.found
+            results.append(result)
             reasons = {(rule.name, why): count for why, count in result.not_looked_at.items()}
             yield Answer(
                 list(map(entry_of_remark, result.found)), {rule.name: result.unusually_skipped}, reasons=reasons

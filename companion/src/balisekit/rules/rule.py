@@ -188,6 +188,8 @@ class Result(NamedTuple):
     """Whether it is no fault that it has looked at nothing."""
     usual: AbstractSet[str] = frozenset()
     """The reasons that sound lines have too: words without `--all` only count them."""
+    doubted: AbstractSet[int] = frozenset()
+    """The rows that it would call wrong if no finding of the program did. None of these findings is expected."""
 
     @classmethod
     def of_chains(cls, line: Line, look_at: Callable[[Chain], Iterator[Union[Remark, str, None]]]) -> Result:

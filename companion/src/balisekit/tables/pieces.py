@@ -34,8 +34,8 @@ MOST = 300
 """How many digits are looked at behind the first one."""
 BREAK = "-"
 """In place of a row without digits, which ends what is looked at."""
-FIRST = re.compile(r"^[\W_]*(?:0[xX])?[0fF]*[aA9][01\W_]", re.MULTILINE)
-"""A row in which a telegram could begin."""
+FIRST = re.compile(r"^(?:[^\w\n]|_)*(?:0[xX])?[0fF]*[aA9][01\W_]", re.MULTILINE)
+"""A row in which a telegram could begin. Each row is looked at by itself: signs do not lead to the rows below it."""
 LETTER, FIGURE = re.compile("[A-Fa-f]"), re.compile("[0-9]")
 
 
@@ -243,10 +243,12 @@ def _rows_from(rows: Sequence[List[str]], begin: int) -> int:
     """How many rows are a telegram together, from this one on. 0 if they are none."""
     groups: List[str] = []
     row_of: Dict[int, int] = {}
+    length = 0
     for number in range(begin, min(begin + MOST, len(rows))):
-        if not rows[number] or sum(map(len, groups)) > MOST:
+        if not rows[number] or length > MOST:
             break
         groups += rows[number]
+        length += sum(map(len, rows[number]))
         row_of[len(groups)] = number - begin + 1
     count = count_from(groups)
     return next((rows for last, rows in row_of.items() if last >= count), 0) if count else 0

@@ -7,6 +7,7 @@ import math
 import re
 import warnings
 import zipfile
+from contextlib import nullcontext, suppress
 from decimal import Decimal
 from functools import partial
 from itertools import islice
@@ -87,6 +88,7 @@ def read(content: bytes, name: Optional[str], headings: Headings = Headings(), f
             file = io.BytesIO(content)
             reader = openpyxl.reader.excel.ExcelReader(file, read_only=True, data_only=True, keep_links=False)
             reader.read_strings = partial(strings.read, reader)
+            reader.read_chartsheet = partial(_read_chart_sheet, reader)
             reader.read()
             book, named = reader.wb, len(reader.parser.sheets)
             _look_at_workbook(reader)
@@ -115,6 +117,15 @@ def read(content: bytes, name: Optional[str], headings: Headings = Headings(), f
         others = tuple(other.title for other in all_sheets if other is not sheet)
         how = areas, fill_merged, found, name is not None
         return Sheet("xlsx", "", rows, notes, sheet.title, others, *how, *formulas[1:])
+
+
+def _read_chart_sheet(reader: Any, sheet: Any, relation: Any) -> None:
+    """Reads a chart sheet. At one without a chart openpyxl fails after it has put the sheet into the book."""
+    from openpyxl.packaging.relationship import get_rels_path
+
+    has_chart = get_rels_path(relation.target) in reader.valid_files
+    with nullcontext() if has_chart else suppress(AttributeError):
+        type(reader).read_chartsheet(reader, sheet, relation)
 
 
 def _unreadable(error: Exception, row: Optional[int] = None) -> Exception:

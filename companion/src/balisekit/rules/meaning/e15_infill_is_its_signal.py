@@ -48,14 +48,14 @@ from __future__ import annotations
 
 from collections import Counter
 from decimal import Decimal
-from typing import Dict, Iterator, List, Optional, Tuple
+from typing import Dict, Iterator, List, Optional, Set, Tuple
 
 from balisekit.etcs.variables import metres
 from balisekit.rules.line import NOWHERE, Line
 from balisekit.rules.location import NOT_KNOWN, Identity, Location
 from balisekit.rules.meaning.along import Extent, extents_of, lane_of, rear
 from balisekit.rules.meaning.fields import fields_apart
-from balisekit.rules.meaning.infill_signals import COMPARED, are_others, signal_of
+from balisekit.rules.meaning.infill_signals import COMPARED, are_others, lacks_profiles, signal_of
 from balisekit.rules.meaning.words import merged, source
 from balisekit.rules.passages import GroupData, Passage
 from balisekit.rules.rule import Field, Options, Remark, Result, Rule, Urgency
@@ -72,6 +72,7 @@ def find(line: Line, options: Options) -> Result:
     decoded, found, looked_at = line.decoded, [], 0
     skipped: Counter[str] = Counter()
     unknown: List[Tuple[Passage, Packet, Identity]] = []
+    doubted: Set[int] = set()
     for passage in decoded.passages:
         reference = passage.reference
         if reference is not None and passage.group is not None and "nid_bg" in reference.form:
@@ -83,6 +84,8 @@ def find(line: Line, options: Options) -> Result:
                 looked_at += signal is not None
                 skipped[NO_ASPECT] += signal is None
                 skipped[NO_PACKET] += signal is not None and are_others(passage, signal)
+                if signal is not None and lacks_profiles(passage, signal):
+                    doubted.update(each.row.number for each in (reference, *passage.infill) if each.row)
                 ahead = list(_ahead(passage, passage.group, reference, target))
                 found += ahead or list(_differences(signal, passage, target))
             elif identity[1] != NOT_KNOWN:
@@ -101,7 +104,7 @@ def find(line: Line, options: Options) -> Result:
             found.append(Remark("E15", passage.at(reference), words, None, values))
     looked_at -= skipped[NO_PACKET]
     result = Result.of_places(merged(found), looked_at, {}, +skipped)
-    return result._replace(notes=sorted(notes))
+    return result._replace(notes=sorted(notes), doubted=doubted)
 
 
 def _may_be_refused(line: Line, passage: Passage) -> bool:
@@ -151,6 +154,7 @@ def _differences(signal: Optional[Passage], passage: Passage, target: GroupData)
                 facts += [f"{number} {each.name} {each.own} {each.other}" for each in differing]
                 fields += [*apart.field_of(packet), *apart.field_of(other)]
     if first is not None:
+        compared += [passage.at(each) for each in [passage.reference] if each and each.row is not first.row]
         made = Remark("E15", passage.at(first), "; ".join(words), target.group, values, beside=fields)
         yield made._replace(compared=compared, facts=facts)
 

@@ -104,7 +104,8 @@ def find(line: Line, options: Options) -> Result:
     found = [_remark(own, known) for own in _by_remark(parts)]
     looked_at = sum(len(own) + len(few.get(name, ())) for name, own in known.items()) - sum(counts.values())
     lacks = {RARE: rare, **passed_over, **counts}
-    return Result(found, looked_at, lacks, is_optional=True, usual=frozenset({RARE, INFILL}))
+    doubted = frozenset(row for case in packets.doubted for row in _rows_of(case, case.aspect))
+    return Result(found, looked_at, lacks, is_optional=True, usual=frozenset({RARE, INFILL}), doubted=doubted)
 
 
 def _of_value(odd: Odd) -> Unlike:

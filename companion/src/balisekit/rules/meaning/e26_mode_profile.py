@@ -91,7 +91,8 @@ def _look_at(options: Options, passage: Passage, packet: Packet, packets: Sequen
         *chain(*map(_mode, range(len(form["elements"])), form["elements"])),
     ]
     if faults:
-        yield remark("E26", passage.at(packet), faults)
+        elsewhere = [passage.at(each) for each in authorities if each.row is not packet.row]
+        yield remark("E26", passage.at(packet), faults)._replace(compared=elsewhere)
 
 
 def _start(options: Options, packet: Packet, authorities: Sequence[Packet]) -> Iterator[Fault]:

@@ -113,7 +113,9 @@ def _section(options: Options, passage: Passage, packet: Packet) -> Iterator[Rem
             f"{metres(nearest)} from the group"
         )
         values = {"l_section_m": distance(section), "d_link_m": distance(nearest)}
-        yield remark("E30", passage.at(packet), [Fault(words, values, [("l_section", None)])])
+        made = remark("E30", passage.at(packet), [Fault(words, values, [("l_section", None)])])
+        linking = (each for each in passage.of(LINKING) if each.row is not packet.row)
+        yield made._replace(compared=list(map(passage.at, linking)))
 
 
 RULE = Rule("E30", "packets and links of repositioning", __doc__ or "", find, Urgency.WRONG_INFORMATION)

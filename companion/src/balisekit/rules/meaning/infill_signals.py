@@ -6,6 +6,7 @@ from typing import Optional
 from balisekit.etcs.geometry import DIRECTIONS, NOMINAL, REVERSE
 from balisekit.rules.decoded import Decoded
 from balisekit.rules.passages import GroupData, Passage
+from balisekit.rules.telegrams import GRADIENTS, SPEEDS
 
 COMPARED = (12, 21, 27, 80)
 """The packets after a packet 136 that are compared with those of the signal."""
@@ -33,3 +34,9 @@ def are_others(passage: Passage, signal: Passage) -> bool:
     counts = ([packet.number for packet in packets].count for packets in (passage.infill, signal.said))
     own, its = counts
     return any(own(number) != its(number) for number in COMPARED)
+
+
+def lacks_profiles(passage: Passage, signal: Passage) -> bool:
+    """Whether the signal has more packets 21 or 27 than its infill, so that an authority of the infill lacks one."""
+    own, its = ([packet.number for packet in packets].count for packets in (passage.infill, signal.said))
+    return any(own(number) < its(number) for number in (GRADIENTS, SPEEDS))

@@ -35,17 +35,21 @@ class Lacking(NamedTuple):
     parts: Sequence[Unlike]
     left: Sequence[Case]
     """Those that are not reported, because too many lack the packet, although at least half of the signals have it."""
+    doubted: Sequence[Case]
+    """Those that are not reported, because the program reports an authority without this profile."""
 
 
 def lacking_packets(cases: Cases, few: Cases, ordered: Collection[Tuple[int, str]]) -> Lacking:
     """The packets that an aspect lacks, together those that as many other signals have."""
     parts: List[Unlike] = []
     left: List[Case] = []
+    doubted: List[Case] = []
     for name, own in cases.items():
         without: Dict[Tuple[int, int], Tuple[Case, List[int]]] = {}
         for number in sorted({packet.number for case in own for packet in case.packets if _is_of_aspect(packet)}):
             some, having = lacking(own, few.get(name, ()), number)
             is_odd = 5 * having >= 4 * signals_of(own) and (number in OFTEN or signals_of(some) == 1)
+            doubted += [case for case in some if is_odd and _is_of_program(case, number)]
             some = [case for case in some if not _is_said_elsewhere(case, number, ordered)]
             if is_odd:
                 for case in some:
@@ -53,7 +57,7 @@ def lacking_packets(cases: Cases, few: Cases, ordered: Collection[Tuple[int, str
             elif 2 * having >= signals_of(own):
                 left += some
         parts += [_of_packets(case, count, numbers) for (_, count), (case, numbers) in without.items()]
-    return Lacking(parts, left)
+    return Lacking(parts, left, doubted)
 
 
 def _of_packets(case: Case, count: int, numbers: Sequence[int]) -> Unlike:
@@ -72,11 +76,16 @@ def _is_of_aspect(packet: Packet) -> bool:
 
 def _is_said_elsewhere(case: Case, number: int, ordered: Collection[Tuple[int, str]]) -> bool:
     """Whether another finding names what an aspect lacks: the program, or the rule on the aspects of one group."""
-    if case.speed and number in (GRADIENTS, SPEEDS):
+    if _is_of_program(case, number):
         return True
     if number == STOP_IN_SR and (id(case.data), case.aspect) in ordered:
         return True
     return (case.aspect, case.direction) in _told(case.data)
+
+
+def _is_of_program(case: Case, number: int) -> bool:
+    """Whether F10 or F12 names what an aspect lacks."""
+    return case.speed > 0 and number in (GRADIENTS, SPEEDS)
 
 
 @lru_cache(maxsize=1)

@@ -14,6 +14,7 @@ from balisekit.rules.passed_over import PassedOver, Rules, behind_infill, notes_
 RULES = rules_of(__name__, __path__)
 OF_PLACES = Rules("X1 to X3, X5 and X6", "X1 to X3, X5 and X6")
 """What needs the kilometre of a group, and its direction. X4 needs them for rows with a way, and X7 needs none."""
+NO_TRACK = "no track, although other groups have one, so X1 to X3, X5 and X6 compare it with no row that has a track"
 IN_PLAN = frozenset({12, 15, 21, 27, 41, 42, 46, 131})
 """The packets that are compared with a plan."""
 
@@ -25,8 +26,9 @@ def passed_over(line: Line) -> Iterator[PassedOver]:
 
 
 def notes_on(line: Line) -> Iterator[str]:
-    """A note for each reason."""
-    return notes_of(passed_over(line))
+    """A note for each reason, and for the groups without a track, which only rows without a track are compared with."""
+    trackless = (PassedOver(group.group, NO_TRACK) for group in line.trackless)
+    return notes_of([*passed_over(line), *trackless])
 
 
 __all__ = ["OF_PLACES", "RULES", "notes_on", "passed_over"]

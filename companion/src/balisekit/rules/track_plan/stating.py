@@ -19,6 +19,7 @@ from balisekit.tables.plan import PlanRow
 NEAR = 500
 """In decimetres: what is as near to the first group may be at it, so that no other group states it."""
 REFUSED, OTHER_LEVEL = "a refused telegram on the track", "another level by the plan"
+ONE_WAY = "stated for one way only, although groups send such packets for both"
 Lane = Tuple[str, int]
 """A track as a plan has it, and a way."""
 RowPart = Tuple[int, int, Optional[int]]
@@ -71,8 +72,10 @@ class Stating:
         parts = [part for part in found if part]
         if not parts:
             return IN_JUMP
-        if row.number in self._said.named or any(self._states(row.track, *part) for part in parts):
-            return ""
+        states = [self._states(row.track, *part) for part in parts]
+        if row.number in self._said.named or any(states):
+            silent = [part for part, is_stated in zip(parts, states) if not is_stated]
+            return ONE_WAY if any(self._has_silent_senders(row.track, *part) for part in silent) else ""
         within = [part for part in parts if self._is_within(row.track, *part)]
         if not within:
             return BEYOND
@@ -93,13 +96,24 @@ class Stating:
     def _states(self, track: str, way: int, low: int, high: Optional[int]) -> bool:
         return self._kind != "signal" and self._covered.get((track, way), Covered()).has_any_of(low, high)
 
+    def _has_silent_senders(self, track: str, way: int, low: int, high: Optional[int]) -> bool:
+        """Whether groups that send such packets for a way are before a part of which none of them states anything."""
+        senders = self._said.senders.get((track, way), ())
+        begin = low if way > 0 or high is None else high
+        is_before = any(way * place <= way * begin for place in senders)
+        return self._kind != "signal" and is_before and self._is_within(track, way, low, high)
+
     def _is_within(self, track: str, way: int, low: int, high: Optional[int]) -> bool:
-        """Whether more than a few metres of a row are between the first and the last group of its track."""
+        """Whether more than a few metres of a row are between the first and the last group of its track, or all of it.
+
+        All of a short row must be a few metres from both groups.
+        """
         places = self._along.get(track)
         if not places:
             return False
         if self._kind != "signal":
-            return min(places[-1], places[-1] if high is None else high) - max(places[0], low) > NEAR
+            is_inside = high is not None and places[0] + NEAR <= low and high <= places[-1] - NEAR
+            return is_inside or min(places[-1], places[-1] if high is None else high) - max(places[0], low) > NEAR
         senders = self._said.senders.get((track, way), places)
         first = min(senders) if way > 0 else max(senders)
         return way * (low - first) > NEAR and places[0] <= low <= places[-1]

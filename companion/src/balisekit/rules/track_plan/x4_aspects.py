@@ -9,6 +9,8 @@ row. It rests on SUBSET-026, 7.4.2 and 7.5.1.
 - If the row states a time or a place of a timer that the packet does not have, the remark gives `none` for the packet.
 - Lengths may differ by the rounding of Q_SCALE and by `--tolerance` (default 0).
 - A missing packet 12 is reported only if the table has the aspect and no telegram of the aspect is refused.
+- The kilometre and the track of the row are not compared. A note names the rows that have another track than the group,
+  or a kilometre more than 50 m from it.
 - A packet 12 that follows a packet 136 is not compared, and does not count as the packet 12 of the aspect.
 
 Why it matters. At worst the train gets wrong information: it runs farther or faster than its route allows.
@@ -34,13 +36,13 @@ from __future__ import annotations
 
 from collections import Counter
 from decimal import Decimal
-from typing import Dict, Iterator, List, NamedTuple, Optional, Set
+from typing import Dict, Iterator, List, Optional, Set
 
-from balisekit.rules.decoded import Decoded
 from balisekit.rules.line import Line
-from balisekit.rules.passages import GroupData, Passage
+from balisekit.rules.passages import Passage
 from balisekit.rules.track_plan.placed import NO_PLACE, SAYS_NOTHING, PlacedPlan, Saying, cells_of, plan_words, remark
 from balisekit.rules.rule import Options, Remark, Result, Rule, Urgency
+from balisekit.rules.track_plan.sites import Site, elsewhere, sites_of
 from balisekit.rules.telegrams import Packet, allowance
 from balisekit.tables.plan import WAY_WORDS, PlanRow, aspect_name
 from balisekit.tables.plan_values import LENGTHS, STEP, TIMES, Terms, term_words
@@ -50,15 +52,7 @@ FIELDS = {"v": "V_MAIN", "end": "the end of authority", "overlap": "the overlap"
 FIELDS.update(danger="the danger point", loa="V_LOA", loa_time="T_LOA", end_time="T_ENDTIMER", overlap_time="T_OL")
 FIELDS.update(end_start="D_ENDTIMERSTARTLOC", overlap_start="D_STARTOL")
 NO_TIME_OUT = 1023
-
-
-class Site(NamedTuple):
-    """An aspect of the table."""
-
-    data: GroupData
-    aspect: str
-    is_read: bool
-    """Whether the program has read all its telegrams."""
+REFUSED = "a refused telegram of the aspect"
 
 
 def find(line: Line, options: Options) -> Result:
@@ -74,10 +68,12 @@ def find(line: Line, options: Options) -> Result:
         for packet in own:
             counts["" if fitting else NO_PLACE if rows and passage.way is None else SAYS_NOTHING] += 1
             found += [each for row in fitting for each in _compare(Saying(passage, packet), row, options)]
-    sites = _sites(line.decoded)
+    sites = sites_of(line.decoded)
     left = [row for rows in placed.plan.aspects.values() for row in rows if row.number not in matched]
-    found += [_lacking(sites[row.name], row) for row in left if row.name in sites and sites[row.name].is_read]
-    return placed.result(["aspect"], found, counts)
+    known = [row for row in left if row.name in sites]
+    found += [_lacking(sites[row.name], row) for row in known if sites[row.name].is_read]
+    counts[REFUSED] += sum(not sites[row.name].is_read for row in known)
+    return placed.result(["aspect"], found, +counts, elsewhere(placed, sites))
 
 
 def all_terms_of(packet: Packet) -> Terms:
@@ -106,17 +102,6 @@ def terms_of(packet: Packet) -> Terms:
 
 def _name(passage: Passage) -> str:
     return aspect_name(passage.group.group.group.name, passage.aspect) if passage.group else ""
-
-
-def _sites(decoded: Decoded) -> Dict[str, Site]:
-    """The aspects of the table by the names that a plan gives them."""
-    return {
-        aspect_name(data.group.group.name, aspect.name): Site(
-            data, aspect.name, all(row.number in data.telegrams for row in aspect.rows)
-        )
-        for data in decoded.groups
-        for aspect in data.group.group.aspects
-    }
 
 
 def _compare(saying: Saying, row: PlanRow, options: Options) -> Iterator[Remark]:

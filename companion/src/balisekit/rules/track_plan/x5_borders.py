@@ -64,6 +64,8 @@ from balisekit.tables.names import kilometre
 from balisekit.tables.plan import BORDERS, PlanRow
 from balisekit.tables.plan_values import metres
 
+UNSURE = "borders of the plan that a packet without a known place may name"
+"""Why borders of the plan are not looked for."""
 WORDS = {"level": "level", "rbc": "RBC"}
 KIND = {41: "level", 46: "level", 131: "rbc", 42: "rbc"}
 
@@ -92,11 +94,13 @@ def find(line: Line, options: Options) -> Result:
         elsewhere = None if _is_there(border, place, spots[0], tolerance) else place
         found.setdefault((spots[0].row.number, elsewhere, border.text), []).append((border, place, spots))
     remarks = [_remark(placed, each) for each in found.values()]
-    rows = [row for kind in BORDERS for row in placed.plan.of_kind(kind) if (kind, row.track) not in unplaced]
-    left = [row for row in rows if row.number not in named]
-    remarks += [] if counts[NOT_DECODED] else [each for row in left for each in _unnamed(placed, row)]
+    rows = [row for kind in BORDERS for row in placed.plan.of_kind(kind) if row.number not in named]
+    left = [row for row in rows if (row.kind, row.track) not in unplaced]
+    unnamed = [each for row in left for each in _unnamed(placed, row)]
+    unsure = len(rows) - len(left) + (len(unnamed) if counts[NOT_DECODED] else 0)
+    remarks += [] if counts[NOT_DECODED] else unnamed
     beyond = sum(1 for row in left if _is_beyond(placed, row))
-    counts.update({BEYOND: beyond} if beyond else {})
+    counts.update({why: count for why, count in ((BEYOND, beyond), (UNSURE, unsure)) if count})
     return placed.result(BORDERS, remarks, counts)
 
 

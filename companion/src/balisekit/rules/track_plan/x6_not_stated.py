@@ -8,7 +8,9 @@ rests on SUBSET-026, 7.4.2 and 7.5.1.
   signal for an authority that ends elsewhere.
 - One remark names all rows that follow each other on a track.
 - A row is not compared if it is beyond the table. A speed or gradient is beyond the table if at most 50 m of it are
-  between the first and the last group of the track.
+  between the first and the last group of the track. A shorter one within the table, 50 m from both groups, is compared.
+- Telegrams might state a row for both ways in one of them only. If groups before it send such packets for the other way
+  too, the row counts as not compared.
 - A signal is beyond the table if it is not between the first and the last group of its track. It is also beyond the
   table if it is at most 50 m after the first group that sends a packet 12 or 15 for its way.
 - A row is not compared if the plan has only levels other than level 1 where the row begins.
@@ -40,7 +42,7 @@ from balisekit.rules.line import Line
 from balisekit.rules.location import Location
 from balisekit.rules.rule import Options, Remark, Result, Rule, Urgency
 from balisekit.rules.track_plan.placed import NO_PLACE, PlacedPlan, cells_of
-from balisekit.rules.track_plan.stating import Stating, ends_of, profiles_of
+from balisekit.rules.track_plan.stating import ONE_WAY, Stating, ends_of, profiles_of
 from balisekit.tables.names import NAMED, clean, kilometre, listed, rows_words
 from balisekit.tables.plan import PlanRow
 
@@ -62,7 +64,7 @@ def find(line: Line, options: Options) -> Result:
         stating = ends_of(placed) if kind == "signal" else profiles_of(placed, kind)
         left = {row.number for row in rows if _is_left(stating, row, counts)}
         found += [_remark(placed, some) for some in _together(rows, left)]
-    return Result(found, counts.pop("", 0), counts)
+    return Result(found, counts.pop("", 0), counts, usual=frozenset({ONE_WAY}))
 
 
 def _is_left(stating: Stating, row: PlanRow, counts: Dict[str, int]) -> bool:

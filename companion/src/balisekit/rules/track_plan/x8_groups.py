@@ -34,19 +34,21 @@ from collections import Counter
 from decimal import Decimal
 from typing import Dict, Iterator, List, Tuple
 
-from balisekit.design.groups import DesignedGroup, DesignedGroups, differing_kilometres, link
+from balisekit.design.groups import DesignedGroup, DesignedGroups, link
 from balisekit.etcs.geometry import NOMINAL
 from balisekit.rules.line import Line
 from balisekit.rules.location import NO_DIRECTION
 from balisekit.rules.passages import GroupData, Passage
 from balisekit.rules.rule import Options, Remark, Result, Rule, Urgency
 from balisekit.rules.telegrams import LINKING, Link, Packet, rounding
+from balisekit.rules.track_plan.sites import differing_places, lacks_kilometres
 from balisekit.rules.track_plan.placed import SAYS_NOTHING, PlacedPlan, cells_of, plan_words
-from balisekit.tables.names import clean, kilometre, quoted, rows_words
+from balisekit.tables.names import clean, rows_words
 from balisekit.tables.plan import WAY_WORDS
 from balisekit.tables.plan_values import metres
 
 REFUSED = "no telegram is read"
+NO_KILOMETRES = "no kilometre of the group or of a balise that the plan has"
 
 
 def find(line: Line, options: Options) -> Result:
@@ -61,14 +63,15 @@ def find(line: Line, options: Options) -> Result:
         counts[SAYS_NOTHING if group is None else "" if data.telegrams else REFUSED] += 1
         if group:
             found += _of_group(line, data, group, options, counts)
-    return placed.result(["group"], [*found, *_of_links(line, designed, options, counts)], counts)
+    return placed.result(["group"], [*found, *_of_links(line, designed, options, counts)], +counts)
 
 
 def _of_group(
     line: Line, data: GroupData, group: DesignedGroup, options: Options, counts: Dict[str, int]
 ) -> Iterator[Remark]:
     """One remark on all that differs in a group."""
-    differ = [*_headers(data, group), *_places(line, data, group, options)]
+    differ = [*_headers(data, group), *differing_places(line, data, group, options)]
+    counts[NO_KILOMETRES] += lacks_kilometres(data, group)
     if group.nominal and data.group.rising is None:
         counts[NO_DIRECTION] += 1
     elif group.nominal and data.group.rising != group.nominal:
@@ -82,30 +85,20 @@ def _of_group(
 def _headers(data: GroupData, group: DesignedGroup) -> Iterator[str]:
     """What differs in the headers: each other value once, with its rows."""
     terms = group.row.group_terms
+    balises = terms.balises or len(terms.kilometres)
     rows: Dict[str, List[int]] = {}
     for row, header in ((number, telegram.header) for number, telegram in data.telegrams.items()):
         identity = header.nid_c, header.nid_bg
         if terms.identity and identity != terms.identity:
             own, wanted = (f"{each[0]}/{each[1]}" for each in (identity, terms.identity))
             rows.setdefault(f"NID_C and NID_BG are {own}{{}}, and {wanted}", []).append(row)
-        if terms.balises and header.n_total + 1 != terms.balises:
-            text = f"N_TOTAL is {header.n_total} ({header.n_total + 1} balises){{}}, and {terms.balises - 1}"
+        if balises and header.n_total + 1 != balises:
+            text = f"N_TOTAL is {header.n_total} ({header.n_total + 1} balises){{}}, and {balises - 1}"
             rows.setdefault(text, []).append(row)
         if terms.is_linked is not None and bool(header.q_link) != terms.is_linked:
             rows.setdefault(f"Q_LINK is {int(header.q_link)}{{}}, and {int(terms.is_linked)}", []).append(row)
     for text, numbers in rows.items():
         yield text.format("" if len(numbers) == len(data.telegrams) else f" in {rows_words(sorted(numbers))}")
-
-
-def _places(line: Line, data: GroupData, group: DesignedGroup, options: Options) -> Iterator[str]:
-    """What differs in the track, the kilometre and the kilometres of the balises."""
-    own, row, allowed = data.group, group.row, line.decoded.tolerance(options.tolerance)
-    if clean(own.track) != row.track:
-        yield f"the track is {quoted(own.track)}, and {quoted(row.track)}"
-    stated, wanted = [each.km for each in own.group.aspects[0].rows], row.group_terms.kilometres
-    for what, pair in (("the first", ([own.km], [row.km])), ("a", (stated[1:], wanted[1:]))):
-        for one, other in differing_kilometres(*pair, allowed):
-            yield f"{what} balise is at km {kilometre(one)}, and at km {kilometre(other)}"
 
 
 def _of_links(line: Line, designed: DesignedGroups, options: Options, counts: Dict[str, int]) -> Iterator[Remark]:
