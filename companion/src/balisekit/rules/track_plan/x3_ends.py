@@ -38,6 +38,7 @@ from decimal import Decimal
 from typing import Dict, List, NamedTuple, Optional, Sequence, Tuple
 
 from balisekit.rules.line import Line
+from balisekit.rules.location import ANOTHER_TRACK
 from balisekit.rules.track_plan.placed import (
     BEHIND_POINT,
     NO_PLACE,
@@ -45,6 +46,7 @@ from balisekit.rules.track_plan.placed import (
     PlacedPlan,
     Saying,
     Spot,
+    Values,
     cells_of,
     nearest,
     plan_words,
@@ -52,8 +54,12 @@ from balisekit.rules.track_plan.placed import (
 )
 from balisekit.rules.rule import Options, Remark, Result, Rule, Urgency
 from balisekit.rules.telegrams import AUTHORITIES, Packet, allowance
-from balisekit.tables.names import clean
+from balisekit.tables.names import clean, kilometre
 from balisekit.tables.plan_values import metres
+
+
+Differing = Tuple[str, Values]
+"""What differs in words, and both values."""
 
 
 class End(NamedTuple):
@@ -97,6 +103,22 @@ def end_of(placed: PlacedPlan, saying: Saying) -> Tuple[Optional[End], str]:
     if placed.is_behind_point(passage, place):
         return None, BEHIND_POINT
     return End(saying, place, nearest(spots, place)), ""
+
+
+def other_signal(placed: PlacedPlan, saying: Saying, name: str, options: Options) -> Tuple[Sequence[Differing], str]:
+    """Where an authority ends, if that is not at the signal of this name; or why the two are not compared."""
+    passage, packet = saying
+    end, why = end_of(placed, saying)
+    if end is None:
+        return [], why
+    own = [spot for spot in placed.spots("signal", passage.track, passage.way or 0) if spot.row.name == name]
+    if not own:
+        return [], ANOTHER_TRACK
+    signal, allowed = nearest(own, end.place), allowance(packet, packet.lengths)
+    if abs(signal.place - end.place) <= placed.decoded.tolerance(options.tolerance, allowed):
+        return [], ""
+    words = f"the authority ends at {placed.km(passage, end.place)}, and at {name} (km {kilometre(signal.row.km)})"
+    return [(words, {"km": placed.km_value(passage, end.place), "plan_km": signal.row.km})], ""
 
 
 def _remark(placed: PlacedPlan, ends: Sequence[End]) -> Remark:
