@@ -979,7 +979,6 @@ def group_cells(rows: List[Cells], name: str, **cells: str) -> List[Cells]:
         ({"value": "id=352/5 balises=3"}, "N_TOTAL is 1 (2 balises), and 2 by"),
         ({"value": "id=352/5 linked=no"}, "Q_LINK is 1, and 0 by"),
         ({"value": "id=352/5 at=16.000,16.006"}, "a balise is at km 16.003, and at km 16.006 by"),
-        ({"km": "16.004"}, "the first balise is at km 16.000, and at km 16.004 by"),
         ({"way": "falling"}, "the kilometres are rising in nominal direction, and falling by"),
         ({"track": "2"}, 'the track is "", and "2" by'),
     ],
@@ -992,6 +991,38 @@ def test_x8_of_another_cell(sound: Tuple[LineOfTable, List[Cells]], tmp_path: Pa
     assert {each.rule for each in found} == {"X8"} and first.location.group
     assert first.location.group.group.name == "Signal 5" and first.sentence.endswith(" of the plan")
     assert not remarks(line, group_cells(rows, "Signal 5", value="id=352/5"), tmp_path)
+
+
+def test_places_count_from_where_the_plan_has_the_group(
+    program: Program, tmp_path: Path, sound: Tuple[LineOfTable, List[Cells]]
+) -> None:
+    """A wrong kilometre of the table is one remark, and not one of each rule. One of the plan moves all its places."""
+    line, rows = sound
+
+    def moved(own: List[Row]) -> None:
+        for row in (row for row in own if row.group == "Signal 5"):
+            row.place += 40
+
+    path = written(program, tmp_path / "moved.csv", SOUND["level-border"], with_rbc, moved)
+    (found,) = remarks(read(program, path), rows, tmp_path)
+    assert found.rule == "X8" and found.sentence.startswith("the first balise is at km 16.040, and at km 16.000 by")
+    several = remarks(line, group_cells(rows, "Signal 5", km="16.004"), tmp_path)
+    assert {each.rule for each in several} == {"X1", "X2", "X3", "X5", "X8"}
+    assert any("the first balise is at km 16.000, and at km 16.004 by" in each.sentence for each in several)
+
+
+def test_another_cut_into_elements_says_the_same(program: Program, tmp_path: Path) -> None:
+    """What holds from where to where is compared: an element that is sent as two of one value is no difference."""
+    rows = implied_rows(read(program, written(program, tmp_path / "t.csv")))
+
+    def cut(own: List[Row]) -> None:
+        elements = change(own, "Signal 5", "green", 27)["elements"]
+        first, second = elements[0], copy.deepcopy(elements[1])
+        second.update(d_static=second["d_static"] - 100)
+        elements[1:2] = [{**copy.deepcopy(first), "d_static": 100}, second]
+
+    line = read(program, written(program, tmp_path / "t.csv", Line(), cut))
+    assert not remarks(line, rows, tmp_path)
 
 
 def link_of(rows: List[Row], sender: str, **fields: int) -> None:
