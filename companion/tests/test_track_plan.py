@@ -24,6 +24,7 @@ from plan_example import Cells, rows_of, text_of
 from test_check_outputs import schema
 
 from balisekit.engine.program import Program, Text
+from balisekit.errors import TableErrors
 from balisekit.io import csv_writing
 from balisekit.present import links_text
 from balisekit.present.explanations import WHOLE
@@ -692,6 +693,7 @@ def test_one_thing_is_named_by_the_singular() -> None:
         "1 row of the plan",
         "1 name of the plan",
         "1 statement about groups",
+        "1 name of the table",
     ]
 
 
@@ -707,11 +709,19 @@ def test_a_plan_that_compares_nothing(run: Run, program: Program, tmp_path: Path
     assert (
         'track plan  track other: X7: the table has no track "other", which row 2 of the plan has' in out
     ), "a row of another track is an open entry"
-    file.write_text("kind,value,name\naspect,end=1500,Signal 5/yellow\n", "utf-8")
+    file.write_text(OF_SIGNAL_5, "utf-8")
     status, out, _ = run("check", path, "--plan", file)
     assert status == 0 and out[-1].endswith(
-        "track plan: none found, 2 compared, 218 not (the plan says nothing: 218)"
+        "track plan: none found, 9 compared, 216 not (the plan says nothing: 216)"
     ), out[-1]
+
+
+OF_SIGNAL_5 = """kind,value,name
+aspect,end=1500,Signal 5/yellow
+aspect,v=0,Signal 5/red
+aspect,loa=0,Signal 5/green
+"""
+"""A plan of one kind: all aspects of one signal."""
 
 
 def without(group: str, aspect: str = "") -> Change:
@@ -772,11 +782,124 @@ def test_x7_names_the_name_that_is_alike(sound: Tuple[LineOfTable, List[Cells]],
     """Names are texts: another case, number or abbreviation is another name."""
     line, rows = sound
     renamed = [{**row, "name": name} if row["name"] == "Signal 3/yellow" else row for row in rows]
-    (found,) = remarks(line, renamed, tmp_path)
+    found, other = sorted(remarks(line, renamed, tmp_path), key=lambda each: each.rule)
+    like = f': did you mean "{name}"?' if name.startswith("Signal 3") and name != "Signal 33/yellow" else ""
+    words = 'the table has the aspect "Signal 3/yellow", and no row of the plan has this name'
+    assert (other.rule, other.sentence) == ("X9", words + like) and other.aspects == ("yellow",) and other.rows
     kind, own = ("aspect", name) if name.startswith("Signal 3") and name[8:9] != "3" else ("group", name.split("/")[0])
     assert found.sentence.startswith(f'the table has no {kind} "{own}", which row ')
     meant = "Signal 3/red" if name == "Signal 3" else "Signal 3/yellow" if kind == "aspect" else "Signal 3"
     assert found.sentence.endswith(f' of the plan has: did you mean "{meant}"?')
+
+
+def test_x9_of_a_group_that_the_plan_lacks(sound: Tuple[LineOfTable, List[Cells]], tmp_path: Path) -> None:
+    """Its name is compared if the plan lists any group, and a row whose name is alike is named."""
+    line, rows = sound
+    row = of_kind(rows, "group", name="Signal 5")
+    others = [each for each in rows if each is not row]
+    (found,) = remarks(line, others, tmp_path)
+    assert (found.rule, found.location.group and found.location.group.group.name) == ("X9", "Signal 5")
+    assert found.sentence == 'the table has the group "Signal 5", and no row of the plan has this name'
+    first, second = remarks(line, [*others, {**row, "name": "Sig 5"}], tmp_path)
+    assert first.sentence.endswith(' of the plan has: did you mean "Signal 5"?') and first.rule == "X7"
+    assert second.sentence.endswith(': did you mean "Sig 5"?') and second.rule == "X9"
+    assert not remarks(line, [each for each in rows if each["kind"] != "group"], tmp_path)
+
+
+def test_x9_of_an_aspect_that_the_plan_lacks(sound: Tuple[LineOfTable, List[Cells]], tmp_path: Path) -> None:
+    """The other aspects of a signal of which the plan lists one. Of other signals none is missed."""
+    line, rows = sound
+    others = [each for each in rows if each["name"] != "Signal 5/green"]
+    (found,) = remarks(line, others, tmp_path)
+    assert (found.rule, found.aspects, len(found.rows)) == ("X9", ("green",), 2)
+    assert found.sentence == 'the table has the aspect "Signal 5/green", and no row of the plan has this name'
+    none = [each for each in rows if not each["name"].startswith("Signal 5/")]
+    assert not remarks(line, none, tmp_path)
+
+
+def without_packet(number: int, group: str, aspect: str) -> Change:
+    """An aspect of a group does not have this packet."""
+
+    def gone(rows: List[Row]) -> None:
+        for row in (row for row in rows if (row.group, row.aspect) == (group, aspect)):
+            row.form["packets"] = [each for each in row.form["packets"] if each["nid_packet"] != number]
+
+    return gone
+
+
+def test_an_aspect_without_authority(program: Program, tmp_path: Path) -> None:
+    """The plan that a table implies lists it, and X4 reports a packet 12 that it has after all."""
+    path = written(program, tmp_path / "t.csv", Line(), without_packet(12, "Signal 5", "red"))
+    rows = implied_rows(read(program, path))
+    assert of_kind(rows, "aspect", name="Signal 5/red")["value"] == "authority=none"
+    assert not remarks(read(program, path), rows, tmp_path)
+    (found,) = remarks(read(program, written(program, path)), rows, tmp_path)
+    assert found.rule == "X4" and found.aspects == ("red",)
+    assert found.sentence.startswith("the aspect has a packet 12, and none by row ")
+
+
+def aspect_value(rows: List[Cells], name: str, value: str) -> List[Cells]:
+    """The plan with another value of an aspect."""
+    return [{**row, "value": value} if (row["kind"], row["name"]) == ("aspect", name) else row for row in rows]
+
+
+def with_more(rows: List[Row]) -> None:
+    """Signal 5 has a mode profile and both orders to stop at red."""
+    (row,) = (row for row in rows if (row.group, row.aspect) == ("Signal 5", "red"))
+    element = [bits(0, 15), bits(0, 2), bits(8, 7), bits(300, 15), bits(100, 15), bits(1, 1)]
+    row.form["packets"] += [raw(80, 1, "".join([bits(1, 2), *element, bits(0, 5)]))]
+    row.form["packets"] += [raw(137, 1, "0"), raw(132, 1, "0")]
+
+
+@pytest.mark.parametrize(
+    "aspect, value, other, said",
+    [
+        ("green", "sections=3000", "sections=2990", "the lengths of the sections: 3000 m, and 2990 m"),
+        ("green", "sections=3000", "sections=1500,1500", "the lengths of the sections: 3000 m, and 1500,1500 m"),
+        ("green", "to=Signal 7", "to=Signal 8", "the authority ends at km 19.000, and at Signal 8 (km 20.500)"),
+        ("green", "links=3", "links=4", "the groups of packet 5: 3, and 4"),
+        (
+            "red",
+            "links=352/6,352/7,352/8",
+            "links=352/6,352/8",
+            "the groups of packet 5: 352/6,352/7,352/8, and 352/6,352/8",
+        ),
+        ("red", "mode=OS:0:300:40:100", "mode=SH:0:300:40:100", "the mode is OS:0:300:40:100, and SH:0:300:40:100"),
+        ("red", "mode=OS:0:300", "mode=OS:0:200", "the mode is OS:0:300, and OS:0:200"),
+        ("red", "mode=OS:0:300:40", "mode=none", "the mode is OS:0:300:40:100, and none"),
+        ("yellow", "mode=none", "mode=OS", "the mode is none, and OS"),
+        ("red", "stop=sr,sh", "stop=sh", "the modes in which trains are stopped: sr,sh, and sh"),
+        ("yellow", "stop=none", "stop=sr", "the modes in which trains are stopped: none, and sr"),
+    ],
+)
+def test_x4_of_further_keys(program: Program, tmp_path: Path, aspect: str, value: str, other: str, said: str) -> None:
+    """The key of the design agrees with the telegrams, and another value is one remark with both values."""
+    line = read(program, written(program, tmp_path / "t.csv", Line(), with_more))
+    rows, name = implied_rows(line), f"Signal 5/{aspect}"
+    assert not remarks(line, aspect_value(rows, name, value), tmp_path)
+    (found,) = remarks(line, aspect_value(rows, name, other), tmp_path)
+    assert found.rule == "X4" and found.sentence.startswith(f"{said} by row "), found.sentence
+
+
+@pytest.mark.parametrize(
+    "value, why",
+    [
+        ("to=Signal 77", 'to: no row has the signal Signal 77: did you mean "Signal 7"?'),
+        ("mode=OS:100", "mode: OS:100 is no mode: write OS:0:300, SH or LS with begin and length, or none"),
+        ("stop=sr,sr", "stop: sr,sr is no stop: write sr, sh, sr,sh or none"),
+        ("links=352", "links: id: 352 is no identity: write NID_C/NID_BG, such as 352/17"),
+        ("authority=yes", "authority: yes: write none, or what the authority gives"),
+        ("authority=none v=20", "authority: with authority=none there is no other key of a packet 12"),
+        ("sections=500,a", "sections: a is no length: write metres, such as 1400 or 1400.5"),
+    ],
+)
+def test_further_keys_that_mean_nothing(
+    sound: Tuple[LineOfTable, List[Cells]], tmp_path: Path, value: str, why: str
+) -> None:
+    """They are refused with the row and what to write."""
+    with pytest.raises(TableErrors) as raised:
+        plan_of(aspect_value(sound[1], "Signal 5/green", value), tmp_path)
+    assert [each.why for each in raised.value.faults] == [why]
 
 
 def farther(metres: int, kind: str, rows: List[Cells]) -> List[Cells]:
@@ -792,7 +915,7 @@ def test_x6_of_a_signal(program: Program, tmp_path: Path, metres: int, is_named:
     """Within the table it is reported at the nearest group. At the first one and beyond the last one it is counted."""
     line = read(program, written(program, tmp_path / "t.csv"))
     found = results(line, farther(metres, "signal", implied_rows(line)), tmp_path)
-    assert [len(found[name].found) for name in found] == [0, 0, 0, 0, 0, is_named, 0, 0]
+    assert [len(found[name].found) for name in found] == [0, 0, 0, 0, 0, is_named, 0, 0, 0]
     assert found["X6"].not_looked_at == ({} if is_named else {"beyond the table": 1})
     for each in found["X6"].found:
         assert each.sentence.startswith(f"no authority ends at the signal of row {len(implied_rows(line)) + 2} of the ")
@@ -857,7 +980,6 @@ def group_cells(rows: List[Cells], name: str, **cells: str) -> List[Cells]:
         ({"value": "id=352/5 balises=3"}, "N_TOTAL is 1 (2 balises), and 2 by"),
         ({"value": "id=352/5 linked=no"}, "Q_LINK is 1, and 0 by"),
         ({"value": "id=352/5 at=16.000,16.006"}, "a balise is at km 16.003, and at km 16.006 by"),
-        ({"km": "16.004"}, "the first balise is at km 16.000, and at km 16.004 by"),
         ({"way": "falling"}, "the kilometres are rising in nominal direction, and falling by"),
         ({"track": "2"}, 'the track is "", and "2" by'),
     ],
@@ -870,6 +992,38 @@ def test_x8_of_another_cell(sound: Tuple[LineOfTable, List[Cells]], tmp_path: Pa
     assert {each.rule for each in found} == {"X8"} and first.location.group
     assert first.location.group.group.name == "Signal 5" and first.sentence.endswith(" of the plan")
     assert not remarks(line, group_cells(rows, "Signal 5", value="id=352/5"), tmp_path)
+
+
+def test_places_count_from_where_the_plan_has_the_group(
+    program: Program, tmp_path: Path, sound: Tuple[LineOfTable, List[Cells]]
+) -> None:
+    """A wrong kilometre of the table is one remark, and not one of each rule. One of the plan moves all its places."""
+    line, rows = sound
+
+    def moved(own: List[Row]) -> None:
+        for row in (row for row in own if row.group == "Signal 5"):
+            row.place += 40
+
+    path = written(program, tmp_path / "moved.csv", SOUND["level-border"], with_rbc, moved)
+    (found,) = remarks(read(program, path), rows, tmp_path)
+    assert found.rule == "X8" and found.sentence.startswith("the first balise is at km 16.040, and at km 16.000 by")
+    several = remarks(line, group_cells(rows, "Signal 5", km="16.004"), tmp_path)
+    assert {each.rule for each in several} == {"X1", "X2", "X3", "X5", "X8"}
+    assert any("the first balise is at km 16.000, and at km 16.004 by" in each.sentence for each in several)
+
+
+def test_another_cut_into_elements_says_the_same(program: Program, tmp_path: Path) -> None:
+    """What holds from where to where is compared: an element that is sent as two of one value is no difference."""
+    rows = implied_rows(read(program, written(program, tmp_path / "t.csv")))
+
+    def cut(own: List[Row]) -> None:
+        elements = change(own, "Signal 5", "green", 27)["elements"]
+        first, second = elements[0], copy.deepcopy(elements[1])
+        second.update(d_static=second["d_static"] - 100)
+        elements[1:2] = [{**copy.deepcopy(first), "d_static": 100}, second]
+
+    line = read(program, written(program, tmp_path / "t.csv", Line(), cut))
+    assert not remarks(line, rows, tmp_path)
 
 
 def link_of(rows: List[Row], sender: str, **fields: int) -> None:
@@ -930,7 +1084,7 @@ def test_options(run: Run, program: Program, tmp_path: Path) -> None:
     assert run("check", path, "--plan", file, "--json", file, "--force")[0] == 2
     (tmp_path / "balisekit.toml").write_text('[check]\nplan = "p.csv"\n', "utf-8")
     status, out, _ = run("check", path)
-    assert status == 0 and out[-1] == 'program: "yes: groups 15, messages 0"; track plan: none found, 405 compared'
+    assert status == 0 and out[-1] == 'program: "yes: groups 15, messages 0"; track plan: none found, 465 compared'
 
 
 def test_without_kilometres(run: Run, program: Program, tmp_path: Path) -> None:
@@ -947,9 +1101,9 @@ def test_without_kilometres(run: Run, program: Program, tmp_path: Path) -> None:
     file.write_text("kind,km,value\nlevel,12,1\nlevel,13,0\n", "utf-8")
     status, out, _ = run("check", path, "--plan", file)
     assert status == 2 and "X5 compared none of 2 borders (no kilometre or direction: 2)" in out[-1]
-    file.write_text("kind,value,name\naspect,end=1500,Signal 5/yellow\n", "utf-8")
+    file.write_text(OF_SIGNAL_5, "utf-8")
     status, out, _ = run("check", path, "--plan", file)
-    assert status == 0 and "track plan: none found, 2 compared" in out[-1]
+    assert status == 0 and "track plan: none found, 9 compared" in out[-1]
 
 
 def test_refused_telegrams(run: Run) -> None:
@@ -973,7 +1127,7 @@ def test_outputs(run: Run, program: Program, tmp_path: Path) -> None:
     assert entry["values"] == {"v_static_kmh": "100", "plan_kmh": "80", "km": "17.990", "km_to": "20.700"}
     assert form["rules"]["X5"]["looked_at"] == 3
     head, *rows = signed.read_text("utf-8").splitlines()
-    assert [row.split(",")[0] for row in rows] == ["X6", "X5", "X3", "X2", "X1", "X4", "X7", "X8"]
+    assert [row.split(",")[0] for row in rows] == ["X6", "X5", "X3", "X2", "X1", "X4", "X7", "X9", "X8"]
     entries = list(csv.DictReader(io.StringIO("\n".join([head, *rows]))))
     for each in entries:
         each.update(reason="as the signalling plan has it", who="me", date="2026-01-02")
@@ -990,7 +1144,7 @@ def test_example() -> None:
     assert plan_example.plan() == (TOP / plan_example.PLAN).read_text("utf-8")
     answer = plan_example.run("check", plan_example.TABLE, "--plan", plan_example.PLAN)
     assert without_program(answer) == without_program((TOP / plan_example.ANSWER).read_text("utf-8"))
-    assert [answer.count(f": {rule.name}: ") for rule in track_plan.RULES] == [1] * 8
+    assert [answer.count(f": {rule.name}: ") for rule in track_plan.RULES] == [1] * 9
 
 
 def test_report(run: Run, tmp_path: Path) -> None:

@@ -15,7 +15,11 @@ The columns are `kind, km, km_to, track, way, value, name`, in any order:
   - `aspect`: `v=120 end=1400 overlap=100 release=20`. V_MAIN in km/h; the end of authority in metres from the group;
     the overlap's length in metres, or `none`; the release speed in km/h, `onboard` or `national`. So are `danger`,
     `end_start` and `overlap_start`, lengths in metres or `none`; `loa_time`, `end_time` and `overlap_time`, seconds or
-    `none`; and `loa` in km/h. A key that is missing is not compared.
+    `none`; and `loa` in km/h. `sections=500,700` has the lengths of the sections in metres, and `to=Signal 7` the name
+    of a row `signal` at which the authority ends. `authority=none` says that there is no packet 12. Other packets have
+    `mode=OS:0:300:40:100`, which is OS, SH or LS with begin, length, speed and the length in which it is acknowledged;
+    `stop=sr,sh` for the modes in which trains are stopped; and `links=3` for the number of groups that packet 5 names,
+    or `links=352/17,352/18`. `mode` and `stop` may be `none`. A key that is missing is not compared.
   - `level`: the levels behind the border in the order of priority: `2`, or `2 NTC:7 0` with NID_NTC.
   - `rbc`: the radio block centre behind the border: `NID_C/NID_RBC`.
   - `group`: `id=352/17 balises=2 linked=yes at=12.300,12.303`. NID_C and NID_BG; how many balises it has; Q_LINK; the
@@ -242,7 +246,7 @@ def _rows(sheet: Sheet, place: int, places: Mapping[str, int]) -> Tuple[PlanRow,
                 faults.append(fault)
     for name in ("km", "km_to"):
         faults += decimal_commas.faults(sheet, place + 1, width, places, name)
-    faults += _clashes(rows)
+    faults += [*_clashes(rows), *_unknown_signals(rows)]
     if faults:
         raise TableErrors(faults)
     if not rows:
@@ -338,6 +342,17 @@ def _clashes(rows: Sequence[PlanRow]) -> Iterator[TableError]:
                 why = f"the {row.kind} {row.name} is in row {earlier.number} already"
                 named.setdefault(row.number, TableError(why, row.number, "name"))
     yield from named.values()
+
+
+def _unknown_signals(rows: Sequence[PlanRow]) -> Iterator[TableError]:
+    """Aspects that lead to a signal that no row has."""
+    names = {row.name for row in rows if row.kind == "signal"}
+    for row in (row for row in rows if row.kind == "aspect"):
+        name = str(row.terms.get("to", ""))
+        if name and name not in names:
+            meant = alike(name, sorted(names))
+            hint = f': did you mean "{meant}"?' if meant else ""
+            yield TableError(f"to: no row has the signal {name}{hint}", row.number, "value")
 
 
 def _clash(earlier: PlanRow, row: PlanRow) -> TableError:

@@ -7,10 +7,12 @@ from typing import Any, Callable, Dict, List, Mapping, NamedTuple, Optional, Tup
 
 from balisekit.errors import TableError
 from balisekit.expressions import expression
-from balisekit.tables.names import kilometre
+from balisekit.tables.names import clean, kilometre
 
-Terms = Mapping[str, Optional[int]]
-"""What an aspect gives, by the keys of ASPECT_KEYS. None is `none`."""
+Term = Union[int, str, Tuple[Optional[int], ...], None]
+"""The value of a key of an aspect. None is `none`."""
+Terms = Mapping[str, Term]
+"""What an aspect gives, by the keys of ASPECT_KEYS."""
 
 
 class GroupTerms(NamedTuple):
@@ -88,7 +90,73 @@ def release(text: str) -> int:
     return RELEASE[word] if word in RELEASE else speed(text)
 
 
-ASPECT_KEYS: Dict[str, Callable[[str], Optional[int]]] = {
+def no_authority(text: str) -> None:
+    """`none`, which says that an aspect has no packet 12. All other keys say what it has."""
+    if text.lower() != NO_END:
+        raise TableError(f"{_shown(text)}: write none, or what the authority gives")
+
+
+def sections(text: str) -> Tuple[Optional[int], ...]:
+    """The lengths of the sections of an authority in the order of passing, the end section last."""
+    return tuple(map(length, text.split(",")))
+
+
+def mode(text: str) -> Optional[Tuple[Optional[int], ...]]:
+    """The one mode of a mode profile as `OS:0:300:40:100`, or `none` for no packet 80.
+
+    They are M_MAMODE, where it begins and how long it is in metres, V_MAMODE in km/h, and L_ACKMAMODE. What is missing
+    at the end is not compared.
+    """
+    if text.lower() == NO_END:
+        return None
+    name, *others = text.split(":")
+    if name.upper() not in MODES or len(others) > 4 or len(others) == 1:
+        raise TableError(f"{_shown(text)} is no mode: write OS:0:300, SH or LS with begin and length, or none")
+    readers = (length, mode_length, mode_speed, length)
+    found = [read(word) for read, word in zip(readers, others)]
+    return (MODES.index(name.upper()), *found, *[None] * (4 - len(found)))
+
+
+def mode_length(text: str) -> int:
+    """A length, or `infinite`."""
+    return INFINITE if text.lower() == INFINITE_WORD else length(text)
+
+
+def mode_speed(text: str) -> int:
+    """A speed, or `national`."""
+    return RELEASE["national"] if text.lower() == "national" else speed(text)
+
+
+def stops(text: str) -> Optional[str]:
+    """Which trains an aspect stops by packets of its own: `sr`, `sh`, `sr,sh` or `none`."""
+    words = text.lower().split(",")
+    if words == [NO_END]:
+        return None
+    if not all(word in STOPS for word in words) or len(set(words)) < len(words):
+        raise TableError(f"{_shown(text)} is no stop: write {', '.join(STOPS)}, {','.join(STOPS)} or none")
+    return ",".join(word for word in STOPS if word in words)
+
+
+def links(text: str) -> Union[int, str]:
+    """How many groups packet 5 names, or which ones in its order, as `352/17,352/18`."""
+    if re.fullmatch("[0-9]{1,2}", text):
+        return int(text)
+    return ",".join(f"{nid_c}/{nid_bg}" for nid_c, nid_bg in map(_identity, text.split(",")))
+
+
+def signal_name(text: str) -> str:
+    """The name of the signal at which an authority ends."""
+    return clean(text)
+
+
+MODES = ("OS", "SH", "LS")
+"""By M_MAMODE."""
+INFINITE, INFINITE_WORD = -1, "infinite"
+"""The length of a mode that does not end: L_MAMODE is 32,767."""
+STOPS = ("sr", "sh")
+"""Trains in staff responsible mode, by packet 137, and in shunting mode, by packet 132."""
+ASPECT_KEYS: Dict[str, Callable[[str], Term]] = {
+    "authority": no_authority,
     "v": speed,
     "end": length,
     "overlap": length_or_none,
@@ -100,16 +168,23 @@ ASPECT_KEYS: Dict[str, Callable[[str], Optional[int]]] = {
     "end_start": length_or_none,
     "overlap_time": seconds_or_none,
     "overlap_start": length_or_none,
+    "sections": sections,
+    "to": signal_name,
+    "mode": mode,
+    "stop": stops,
+    "links": links,
 }
 """The keys of an aspect's value, and how the value of each is read."""
 LENGTHS = ("end", "overlap", "danger", "end_start", "overlap_start")
 TIMES = ("loa_time", "end_time", "overlap_time")
+OTHER_KEYS = ("authority", "mode", "stop", "links")
+"""The keys of which another packet than 12 has the value, or none."""
 
 
 def terms(text: str) -> Terms:
     """What an aspect gives, written as `v=120 end=1400 overlap=100 release=20`. A missing key is not compared."""
-    found: Dict[str, Optional[int]] = {}
-    for part in text.split():
+    found: Dict[str, Term] = {}
+    for part in _parts(text):
         key, equals, value = part.partition("=")
         key = key.lower()
         if key not in ASPECT_KEYS or not equals:
@@ -122,7 +197,20 @@ def terms(text: str) -> Terms:
             raise TableError(f"{key}: {fault.why}") from fault
     if not found:
         raise TableError("empty: an aspect needs a value such as v=120 end=1400 overlap=100 release=20")
+    if "authority" in found and not found.keys() <= {*OTHER_KEYS}:
+        raise TableError("authority: with authority=none there is no other key of a packet 12")
     return found
+
+
+def _parts(text: str) -> List[str]:
+    """The keys with their values. Only the name of a signal may have spaces."""
+    parts: List[str] = []
+    for word in text.split():
+        if parts and "=" not in word and parts[-1].lower().startswith("to="):
+            parts[-1] += f" {word}"
+        else:
+            parts.append(word)
+    return parts
 
 
 def levels(text: str) -> str:
@@ -222,18 +310,29 @@ def terms_text(found: Terms) -> str:
     return " ".join(f"{key}={term_word(key, value)}" for key, value in found.items())
 
 
-def term_words(key: str, value: Optional[int]) -> str:
+def term_words(key: str, value: Term) -> str:
     """The value of a key of an aspect in a sentence."""
-    is_word = value is None or key == "release" and value in RELEASE.values()
-    unit = "" if is_word else "m" if key in LENGTHS else "s" if key in TIMES else "km/h"
+    is_word = value is None or key == "release" and value in RELEASE.values() or key in ("to", *OTHER_KEYS)
+    unit = "" if is_word else "m" if key in (*LENGTHS, "sections") else "s" if key in TIMES else "km/h"
     return f"{term_word(key, value)} {unit}".strip()
 
 
-def term_word(key: str, value: Optional[int]) -> str:
+def term_word(key: str, value: Term) -> str:
     """The value of a key of an aspect."""
     if value is None:
         return NO_END
-    return metres(value) if key in LENGTHS else str(value) if key in TIMES else speed_word(value)
+    if isinstance(value, str):
+        return value
+    if isinstance(value, tuple):
+        return _mode_word(*value) if key == "mode" else ",".join(metres(each) for each in value if each is not None)
+    return metres(value) if key in LENGTHS else str(value) if key in (*TIMES, "links") else speed_word(value)
+
+
+def _mode_word(kind: Optional[int], *others: Optional[int]) -> str:
+    """A mode as a plan writes it."""
+    writers = (metres, lambda each: INFINITE_WORD if each == INFINITE else metres(each), speed_word, metres)
+    words = [write(each) for write, each in zip(writers, others) if each is not None]
+    return ":".join([MODES[kind or 0], *words])
 
 
 def metres(length_dm: int) -> str:

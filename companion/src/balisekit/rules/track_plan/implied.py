@@ -11,7 +11,7 @@ from decimal import Decimal
 from typing import Dict, Iterator, List, NamedTuple, Sequence, Tuple
 
 from balisekit.rules.line import Line
-from balisekit.rules.passages import Passage
+from balisekit.rules.passages import GroupData, Passage
 from balisekit.rules.rule import Options
 from balisekit.rules.telegrams import AUTHORITIES, allowance
 from balisekit.rules.track_plan.borders import NOT_DECODED, NUMBERS, Border, border_of
@@ -19,7 +19,7 @@ from balisekit.rules.track_plan.implied_profiles import Lane, on_track_up_to, pr
 from balisekit.rules.track_plan.placed import NO_PLACE, PlacedPlan, Saying
 from balisekit.rules.track_plan.stretches import KINDS, compare
 from balisekit.rules.track_plan.x3_ends import gives_way
-from balisekit.rules.track_plan.x4_aspects import AUTHORITY, terms_of
+from balisekit.rules.track_plan.aspect_terms import AUTHORITY, terms_of
 from balisekit.tables.plan import BORDERS, Plan, PlanRow, aspect_name
 from balisekit.tables.plan_values import GroupTerms, Value
 
@@ -145,16 +145,26 @@ def _clusters(some: Sequence[At]) -> List[Tuple[int, Value]]:
 
 
 def _aspects(placed: PlacedPlan) -> Iterator[PlanRow]:
-    """What the packet 12 of each aspect gives. The first one counts if there are several."""
-    known = set()
+    """What the packet 12 of each aspect gives. The first one counts if there are several.
+
+    Other aspects of such a signal have a row too, which says that they have no packet 12.
+    """
+    known: Dict[Tuple[str, int], GroupData] = {}
     for passage in placed.decoded.passages:
         own = passage.of(AUTHORITY)
         if own and passage.group and not passage.message:
             group = passage.group.group
             name, way = aspect_name(group.group.name, passage.aspect), passage.way or 0
             if (name, way) not in known:
-                known.add((name, way))
+                known[name, way] = passage.group
                 yield PlanRow(0, "aspect", group.km or Decimal(), None, group.track, way, terms_of(own[0]), name)
+    names = {name for name, _ in known}
+    for data in dict.fromkeys(known.values()):
+        for aspect in data.group.group.aspects:
+            name = aspect_name(data.group.group.name, aspect.name)
+            if name not in names and all(row.number in data.telegrams for row in aspect.rows):
+                km, track = data.group.km or Decimal(), data.group.track
+                yield PlanRow(0, "aspect", km, None, track, 0, {"authority": None}, name)
 
 
 def _groups(placed: PlacedPlan) -> Iterator[PlanRow]:

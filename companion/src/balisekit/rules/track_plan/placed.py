@@ -1,25 +1,27 @@
-"""The rows of a track plan as places along the track, and what telegrams and messages say there.
+"""What telegrams and messages say, at their places on the tracks of the plan.
 
-A row whose kilometre is in a gap of the kilometres, or is there twice, has no place: a note names it, and no rule
-compares it.
+A row of the plan whose kilometre is in a gap of the kilometres, or is there twice, has no place: a note names it, and
+no rule compares it.
 """
 from __future__ import annotations
 
-from bisect import bisect_left, bisect_right
 from decimal import Decimal
 from itertools import takewhile
 from typing import Dict, Iterable, Iterator, Mapping, NamedTuple, Optional, Sequence, Set, Tuple
 
-from balisekit.rules.chainage import Chainage
+from balisekit.design.groups import DesignedGroups
+from balisekit.design.tracks import Start, Tracks
+from balisekit.etcs.geometry import NOMINAL
 from balisekit.rules.line import Line
 from balisekit.rules.location import BEHIND_POINT
 from balisekit.rules.passages import Passage
 from balisekit.rules.rule import Options, Remark, Result, Urgency
 from balisekit.rules.telegrams import Packet
+from balisekit.tables.chainage import Chainage
 from balisekit.tables.names import clean, kilometre, rows_words
-from balisekit.tables.plan import Lane, Plan, PlanRow
+from balisekit.tables.plan import Plan, PlanRow
 
-__all__ = ["BEHIND_POINT", "PlacedPlan", "Saying", "Spot", "cells_of", "nearest", "plan_words", "remark"]
+__all__ = ["BEHIND_POINT", "PlacedPlan", "Saying", "cells_of", "plan_words", "remark"]
 COMPARED = ("speed", "gradient", "signal", "aspect", "level", "rbc", "group")
 """The kinds of rows that rules compare."""
 SAYS_NOTHING = "the plan says nothing"
@@ -29,23 +31,6 @@ BEYOND = "beyond the table"
 Values = Mapping[str, Decimal]
 Counts = Dict[str, int]
 """How many things were compared, by no reason, and how many were not, by the reason."""
-
-
-class PlanStretch(NamedTuple):
-    """A speed or gradient of the plan for trains of one way, from one place to another one."""
-
-    row: PlanRow
-    begin: int
-    end: Optional[int]
-    """Without it there is no end."""
-    value: int
-
-
-class Spot(NamedTuple):
-    """A row of the plan with its one place."""
-
-    row: PlanRow
-    place: int
 
 
 class Saying(NamedTuple):
@@ -60,68 +45,33 @@ class PlacedPlan:
 
     def __init__(self, line: Line, options: Options) -> None:
         self.decoded, self.plan = line.decoded, options.plan or Plan()
-        self._chainages = {clean(track): chainage for track, chainage in self.decoded.chainages.items()}
-        """By the names of tracks as a plan has them."""
-        self._parts: Dict[Lane, Sequence[PlanStretch]] = {}
-        self._begins: Dict[Lane, Sequence[int]] = {}
+        self.tracks = Tracks(self.plan, options.jumps)
+        self.groups = DesignedGroups(self.plan, options.jumps)
+        self._starts: Dict[Passage, Optional[Start]] = {}
         self._limits: Dict[Passage, Optional[int]] = {}
-        self._spots: Dict[Lane, Sequence[Spot]] = {}
-        self._lost: Dict[Lane, Sequence[int]] = {}
 
-    def parts(self, kind: str, track: str, way: int) -> Sequence[PlanStretch]:
-        """The speeds or gradients for trains of one way of a track, in the order of the kilometres."""
-        lane = kind, track, way
-        if lane not in self._parts:
-            stretches = self.plan.stretches(kind, track, way)
-            ends = ((each, self.place(track, each.begin), self.place(track, each.end)) for each in stretches)
-            found = [
-                PlanStretch(each.row, begin, end, each.value)
-                for each, begin, end in ends
-                if begin is not None and (each.end is None or end is not None)
-            ]
-            self._parts[lane] = sorted(found, key=lambda part: part.begin)
-            self._begins[lane] = [part.begin for part in self._parts[lane]]
-        return self._parts[lane]
+    def start(self, passage: Passage) -> Optional[Start]:
+        """From where the distances of a passage count: where the plan has its group, or else the table."""
+        if passage not in self._starts:
+            self._starts[passage] = self._start(passage)
+        return self._starts[passage]
 
-    def parts_within(self, kind: str, passage: Passage, low: int, high: int) -> Iterator[Tuple[PlanStretch, int, int]]:
-        """The speeds or gradients for trains of the passage between two places, each with its part of the stretch."""
-        lane = kind, passage.track, passage.way or 0
-        parts = self.parts(*lane)
-        first = max(bisect_right(self._begins[lane], low) - 1, 0)
-        for part in (parts[index] for index in range(first, bisect_left(self._begins[lane], high))):
-            last = high if part.end is None else min(high, part.end)
-            if max(low, part.begin) < last:
-                yield part, max(low, part.begin), last
+    def _start(self, passage: Passage) -> Optional[Start]:
+        own = start_of(passage)
+        name = clean(passage.group.group.group.name) if own and passage.group else ""
+        group = self.groups.by_name.get(name) if own else None
+        if group is None or group.place is None or not group.nominal:
+            return own
+        return Start(group.row.track, group.nominal * (1 if passage.direction == NOMINAL else -1), group.place)
 
-    def spots(self, kind: str, track: str, way: int) -> Sequence[Spot]:
-        """The rows of a kind that have one place, for trains of one way of a track, in the order of the kilometres."""
-        lane = kind, track, way
-        if lane not in self._spots:
-            found = [
-                Spot(row, place) for row in self.plan.places(kind, track, way) for place in self._places(row, kind)
-            ]
-            self._spots[lane] = sorted(found, key=lambda spot: spot.place)
-        return self._spots[lane]
-
-    def _places(self, row: PlanRow, kind: str) -> Sequence[int]:
-        """The place of a row, if it has one. A point where the kilometres are repeated may be at each of its places."""
-        if kind == "point":
-            return self._chainages.get(row.track, Chainage()).places(row.km)
-        place = self.place(row.track, row.km)
-        return [] if place is None else [place]
-
-    def is_lost(self, kind: str, passage: Passage, place: int, tolerance: int) -> bool:
-        """Whether a row without one place may be at this place: a jump repeats its kilometre."""
-        lane = kind, passage.track, passage.way or 0
-        if lane not in self._lost:
-            chainage = self._chainages.get(clean(passage.track), Chainage())
-            lost = [row for row in self.plan.places(*lane) if chainage.place(row.km) is None]
-            self._lost[lane] = [each for row in lost for each in chainage.places(row.km)]
-        return any(abs(each - place) <= tolerance for each in self._lost[lane])
+    def at(self, passage: Passage, distance: int) -> Optional[int]:
+        """The place at this distance from the group, if its place and direction are known."""
+        start = self.start(passage)
+        return start.at(distance) if start else None
 
     def place(self, track: str, km: Optional[Decimal]) -> Optional[int]:
         """The place of a kilometre, if it has one."""
-        return self._chainages.get(clean(track), Chainage()).place(km)
+        return self.tracks.place(track, km)
 
     def known_to(self, passage: Passage) -> Optional[int]:
         """The first point at which the train may leave its track, or None if there is none.
@@ -133,21 +83,22 @@ class PlacedPlan:
         return self._limits[passage]
 
     def _known_to(self, passage: Passage) -> Optional[int]:
-        way, start = passage.way or 0, passage.place(0)
-        points = self.spots("point", passage.track, way)
+        start = self.start(passage)
+        points = self.tracks.spots("point", start.track, start.way) if start else ()
         if not points or start is None:
             return None
         targets = (link.target for link in passage.links)
         own = takewhile(lambda each: each is None or each.track == passage.track, targets)
         places = (each.place for each in own if each)
-        sure = max([way * start, *(way * place for place in places if place is not None)])
+        way = start.way
+        sure = max([way * start.place, *(way * place for place in places if place is not None)])
         ahead = [way * spot.place for spot in points if way * spot.place > sure]
         return way * min(ahead) if ahead else None
 
     def is_behind_point(self, passage: Passage, place: int) -> bool:
         """Whether the train may be on another track at this place."""
-        limit = self.known_to(passage)
-        return limit is not None and (place - limit) * (passage.way or 0) > 0
+        limit, start = self.known_to(passage), self.start(passage)
+        return limit is not None and start is not None and (place - limit) * start.way > 0
 
     def sayings(self, *numbers: int) -> Iterator[Saying]:
         """What is said by packets with these NID_PACKET: each packet once in each direction."""
@@ -180,24 +131,25 @@ class PlacedPlan:
 
     def km(self, passage: Passage, place: int) -> str:
         """The kilometre of a place in words."""
-        return self.decoded.km(passage.track, place)
+        return f"km {self._chainage(passage).words(place)}"
 
     def km_value(self, passage: Passage, place: int) -> Decimal:
         """The kilometre of a place."""
-        return self.kilometre(passage.track, place)
+        return self._chainage(passage).kilometre(place)
+
+    def _chainage(self, passage: Passage) -> Chainage:
+        start = self.start(passage)
+        return self.tracks.chainage(start.track if start else passage.track)
 
     def kilometre(self, track: str, place: int) -> Decimal:
         """The kilometre of a place of a track."""
-        return self.decoded.chainages.get(track, Chainage()).kilometre(place)
+        return self.tracks.chainage(track).kilometre(place)
 
 
-def nearest(spots: Sequence[Spot], place: int) -> Spot:
-    """The one of some rows, in the order of their places, that is nearest to a place."""
-    low, high = 0, len(spots) - 1
-    while low < high:
-        middle = (low + high) // 2
-        low, high = (middle + 1, high) if spots[middle].place < place else (low, middle)
-    return min(spots[max(low - 1, 0) : low + 1], key=lambda spot: abs(spot.place - place))
+def start_of(passage: Passage) -> Optional[Start]:
+    """From where the distances of a passage count by the table."""
+    place, way = passage.place(0), passage.way
+    return None if place is None or way is None else Start(passage.track, way, place)
 
 
 def remark(

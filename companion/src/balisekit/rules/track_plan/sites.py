@@ -1,39 +1,19 @@
 """Aspects and groups of the table beside their rows of a plan, which are found by names: for X4 and X8."""
 from __future__ import annotations
 
-from typing import Dict, Iterator, Mapping, NamedTuple
+from typing import Iterator, Mapping
 
 from balisekit.design.groups import DesignedGroup, differing_kilometres
-from balisekit.rules.decoded import Decoded
 from balisekit.rules.line import Line
 from balisekit.rules.passages import GroupData
 from balisekit.rules.rule import Options
+from balisekit.rules.track_plan.aspect_sites import Site
 from balisekit.rules.track_plan.placed import PlacedPlan
 from balisekit.tables.names import clean, kilometre, quoted, rows_words
-from balisekit.tables.plan import PlanRow, aspect_name
+from balisekit.tables.plan import PlanRow
 
 NEAR = 500
 """How far, in decimetres, the kilometre of an aspect may be from its group, since a signal is not at its balises."""
-
-
-class Site(NamedTuple):
-    """An aspect of the table."""
-
-    data: GroupData
-    aspect: str
-    is_read: bool
-    """Whether the program has read all its telegrams."""
-
-
-def sites_of(decoded: Decoded) -> Dict[str, Site]:
-    """The aspects of the table by the names that a plan gives them."""
-    return {
-        aspect_name(data.group.group.name, aspect.name): Site(
-            data, aspect.name, all(row.number in data.telegrams for row in aspect.rows)
-        )
-        for data in decoded.groups
-        for aspect in data.group.group.aspects
-    }
 
 
 def elsewhere(placed: PlacedPlan, sites: Mapping[str, Site]) -> Iterator[str]:

@@ -5,13 +5,13 @@ from bisect import bisect_right
 from dataclasses import dataclass, field
 from typing import Dict, Iterator, List, Mapping, Optional, Sequence, Set, Tuple
 
+from balisekit.design.tracks import Spot, Start
 from balisekit.rules.location import IN_JUMP
 from balisekit.rules.meaning.along import unread_of
-from balisekit.rules.passages import Passage
 from balisekit.rules.telegrams import AUTHORITIES
 from balisekit.rules.track_plan.covered import Covered, Part
-from balisekit.rules.track_plan.placed import BEHIND_POINT, BEYOND, PlacedPlan, Spot
-from balisekit.rules.track_plan.stretches import KINDS, known, span
+from balisekit.rules.track_plan.placed import BEHIND_POINT, BEYOND, PlacedPlan
+from balisekit.rules.track_plan.stretches import KINDS, extent, known
 from balisekit.rules.track_plan.x3_ends import end_of, gives_way
 from balisekit.tables.names import clean
 from balisekit.tables.plan import PlanRow
@@ -41,11 +41,10 @@ class Said:
     senders: Dict[Lane, List[int]] = field(default_factory=dict)
     """The places of those that send such packets."""
 
-    def by(self, passage: Passage) -> None:
-        """A packet of this passage is read."""
-        place = passage.place(0)
-        if place is not None and passage.way:
-            self.senders.setdefault((clean(passage.track), passage.way), []).append(place)
+    def by(self, start: Optional[Start]) -> None:
+        """A packet is read whose distances count from here."""
+        if start:
+            self.senders.setdefault((clean(start.track), start.way), []).append(start.place)
 
     def leaves(self, way: int, one: int, other: int) -> None:
         """A packet states something beyond a point, from one place to another one."""
@@ -87,10 +86,10 @@ class Stating:
     def _parts(self, track: str, way: int) -> Iterator[Tuple[int, int, Optional[int]]]:
         """The rows of a track that have a place, by their numbers."""
         if self._kind == "signal":
-            spots: Sequence[Spot] = self._placed.spots(self._kind, track, way)
+            spots: Sequence[Spot] = self._placed.tracks.spots(self._kind, track, way)
             yield from ((spot.row.number, spot.place, spot.place + 1) for spot in spots)
         else:
-            parts = self._placed.parts(self._kind, track, way)
+            parts = self._placed.tracks.stretches(self._kind, track, way)
             yield from ((part.row.number, part.begin, part.end) for part in parts)
 
     def _states(self, track: str, way: int, low: int, high: Optional[int]) -> bool:
@@ -120,7 +119,7 @@ class Stating:
 
     def _has_other_level(self, track: str, way: int, low: int, high: Optional[int]) -> bool:
         """Whether the plan states levels without level 1 where a row begins."""
-        spots = self._placed.spots("level", track, way)
+        spots = self._placed.tracks.spots("level", track, way)
         index = bisect_right([way * spot.place for spot in (spots if way > 0 else spots[::-1])], way * low)
         ordered = spots if way > 0 else spots[::-1]
         return index > 0 and "1" not in ordered[index - 1].row.text_value.split()
@@ -130,15 +129,16 @@ def profiles_of(placed: PlacedPlan, kind: str) -> Stating:
     """What profiles state of the speeds or gradients of the plan."""
     said = Said()
     for saying in placed.sayings(*(number for number, name in KINDS.items() if name == kind)):
-        passage, way = saying.passage, saying.passage.way or 0
-        said.by(passage)
+        passage, start = saying.passage, placed.start(saying.passage)
+        said.by(start)
         for element in saying.packet.stretches:
-            whole, why = span(saying, element)
+            whole, why = extent(saying, element, start)
             own, _ = known(placed, saying, (whole, why))
-            if own:
-                said.parts.setdefault((clean(passage.track), way), []).append((min(own), max(own)))
-            if whole and own != whole:
-                said.leaves(way, own[1] if own else whole[0], whole[1])
+            if own and start:
+                low, high = sorted(map(start.at, own))
+                said.parts.setdefault((clean(start.track), start.way), []).append((low, high))
+            if whole and start and own != whole:
+                said.leaves(start.way, start.at(own[1] if own else whole[0]), start.at(whole[1]))
             elif why:
                 said.lacks.setdefault(clean(passage.track) if passage.group else "*", why)
     return Stating(placed, kind, said)
@@ -148,15 +148,15 @@ def ends_of(placed: PlacedPlan) -> Stating:
     """At which signals of the plan authorities end."""
     said = Said()
     for saying in placed.sayings(*AUTHORITIES):
-        passage, way = saying.passage, saying.passage.way or 0
-        said.by(passage)
+        passage, start = saying.passage, placed.start(saying.passage)
+        said.by(start)
         if gives_way(saying.packet):
             end, why = end_of(placed, saying)
-            place, limit = passage.place(saying.packet.authority.end), placed.known_to(passage)
+            place, limit = placed.at(passage, saying.packet.authority.end), placed.known_to(passage)
             if end:
                 said.named.add(end.signal.row.number)
-            elif why == BEHIND_POINT and place is not None and limit is not None:
-                said.leaves(way, limit, place + way * NEAR)
-            elif place is None or not way:
+            elif why == BEHIND_POINT and place is not None and limit is not None and start:
+                said.leaves(start.way, limit, place + start.way * NEAR)
+            elif start is None:
                 said.lacks.setdefault(clean(passage.track) if passage.group else "*", why)
     return Stating(placed, "signal", said)

@@ -5,16 +5,17 @@ from collections import Counter
 from dataclasses import dataclass, field
 from typing import Dict, List, NamedTuple, Optional, Sequence, Tuple
 
+from balisekit.design.tracks import Element, Start
 from balisekit.rules.facts import sender
 from balisekit.rules.track_plan.placed import (
     BEHIND_POINT,
     NO_PLACE,
     SAYS_NOTHING,
     Counts,
-    PlanStretch,
     PlacedPlan,
     Saying,
     cells_of,
+    start_of,
 )
 from balisekit.rules.rule import Options
 from balisekit.rules.telegrams import GRADIENTS, SPEEDS, Stretch, allowance
@@ -36,7 +37,7 @@ class Difference(NamedTuple):
     """Its first place in the direction of passage."""
     end: int
     said: int
-    part: PlanStretch
+    part: Element
     allowed: int
     """By how much its places may differ."""
     whole: Optional[Span] = None
@@ -96,24 +97,25 @@ def _differing(placed: PlacedPlan, saying: Saying, options: Options, counts: Cou
     """Where a profile differs from the plan, in the direction of passage, however short that is."""
     found: List[Difference] = []
     kind = KINDS[saying.packet.number]
+    start = placed.start(saying.passage)
     for place, element in enumerate(saying.packet.stretches):
         tolerance = placed.decoded.tolerance(options.tolerance_of_places, allowance(saying.packet, place + 2))
-        ends, why = known(placed, saying, span(saying, element))
-        if ends is not None:
-            parts = list(placed.parts_within(kind, saying.passage, min(ends), max(ends)))
-            for part, low, high in parts if ends[0] < ends[1] else reversed(parts):
+        ends, why = known(placed, saying, extent(saying, element, start))
+        if ends is not None and start is not None:
+            wanted = list(placed.tracks.profile(kind, start, *ends))
+            for part in wanted:
                 if part.value != element.value:
-                    places = (low, high) if ends[0] < ends[1] else (high, low)
+                    places = start.at(part.begin), start.at(part.end)
                     found.append(Difference(saying, *places, element.value, part, tolerance))
-            covered = sum(high - low for _, low, high in parts)
-            if not parts or abs(ends[1] - ends[0]) - covered > tolerance:
+            covered = sum(part.end - part.begin for part in wanted)
+            if not wanted or ends[1] - ends[0] - covered > tolerance:
                 why = SAYS_NOTHING
         counts[why] += 1
     return found
 
 
 def _along(difference: Difference) -> Span:
-    way = difference.saying.passage.way or 0
+    way = 1 if difference.begin <= difference.end else -1
     return difference.begin * way, difference.end * way
 
 
@@ -125,20 +127,29 @@ def _length(difference: Difference) -> int:
     return abs(difference.end - difference.begin)
 
 
-def span(saying: Saying, element: Stretch) -> Tuple[Optional[Span], str]:
-    """The places of an element, or why they are not known. An open profile ends as the authority beside it does."""
-    passage, reach = saying.passage, element.end
+def extent(saying: Saying, element: Stretch, start: Optional[Start]) -> Tuple[Optional[Span], str]:
+    """The distances of an element, or why they are not known. An open profile ends as the authority beside it does."""
+    reach = element.end
     if reach is None:
-        reach = max((each.authority.supervised for each in passage.authorities), default=0)
+        reach = max((each.authority.supervised for each in saying.passage.authorities), default=0)
         if reach <= element.begin:
             return None, NO_END
-    begin, end = passage.place(element.begin), passage.place(reach)
-    return ((begin, end), "") if begin is not None and end is not None and passage.way else (None, NO_PLACE)
+    return ((element.begin, reach), "") if start else (None, NO_PLACE)
+
+
+def span(saying: Saying, element: Stretch) -> Tuple[Optional[Span], str]:
+    """The places of an element by the table, or why they are not known."""
+    start = start_of(saying.passage)
+    found, why = extent(saying, element, start)
+    return ((start.at(found[0]), start.at(found[1])), "") if found and start else (None, why)
 
 
 def known(placed: PlacedPlan, saying: Saying, found: Tuple[Optional[Span], str]) -> Tuple[Optional[Span], str]:
-    """The same up to the point at which the train may leave the track."""
-    ends, limit, way = found[0], placed.known_to(saying.passage), saying.passage.way or 0
-    if ends is None or limit is None or way * (limit - ends[1]) >= 0:
+    """The same distances up to the point at which the train may leave the track."""
+    ends, limit, start = found[0], placed.known_to(saying.passage), placed.start(saying.passage)
+    if ends is None or limit is None or start is None:
         return found
-    return (None if way * (limit - ends[0]) <= 0 else (ends[0], limit)), BEHIND_POINT
+    distance = start.way * (limit - start.place)
+    if distance >= ends[1]:
+        return found
+    return (None if distance <= ends[0] else (ends[0], distance)), BEHIND_POINT

@@ -37,29 +37,35 @@ from collections import Counter
 from decimal import Decimal
 from typing import Dict, List, NamedTuple, Optional, Sequence, Tuple
 
+from balisekit.design.tracks import Spot, Start, nearest
 from balisekit.rules.line import Line
+from balisekit.rules.location import ANOTHER_TRACK
 from balisekit.rules.track_plan.placed import (
     BEHIND_POINT,
     NO_PLACE,
     SAYS_NOTHING,
     PlacedPlan,
     Saying,
-    Spot,
+    Values,
     cells_of,
-    nearest,
     plan_words,
     remark,
 )
 from balisekit.rules.rule import Options, Remark, Result, Rule, Urgency
 from balisekit.rules.telegrams import AUTHORITIES, Packet, allowance
-from balisekit.tables.names import clean
+from balisekit.tables.names import clean, kilometre
 from balisekit.tables.plan_values import metres
+
+
+Differing = Tuple[str, Values]
+"""What differs in words, and both values."""
 
 
 class End(NamedTuple):
     """An end of authority, and the nearest signal of the plan."""
 
     saying: Saying
+    start: Start
     place: int
     signal: Spot
 
@@ -72,7 +78,7 @@ def find(line: Line, options: Options) -> Result:
         if gives_way(saying.packet):
             end, why = end_of(placed, saying)
             tolerance = line.decoded.tolerance(options.tolerance, allowance(saying.packet, saying.packet.lengths))
-            if end and placed.is_lost("signal", saying.passage, end.place, tolerance):
+            if end and placed.tracks.is_lost("signal", end.start, end.place, tolerance):
                 end, why = None, NO_PLACE
             counts[why] += 1
             if end and abs(end.place - end.signal.place) > tolerance:
@@ -87,23 +93,39 @@ def gives_way(packet: Packet) -> bool:
 
 def end_of(placed: PlacedPlan, saying: Saying) -> Tuple[Optional[End], str]:
     """Where an authority ends, and the nearest signal; or why they are not compared."""
-    passage = saying.passage
-    place = passage.place(saying.packet.authority.end)
-    if place is None or passage.way is None:
+    start = placed.start(saying.passage)
+    if start is None:
         return None, NO_PLACE
-    spots = placed.spots("signal", passage.track, passage.way)
+    spots, place = placed.tracks.spots("signal", start.track, start.way), start.at(saying.packet.authority.end)
     if not spots:
         return None, SAYS_NOTHING
-    if placed.is_behind_point(passage, place):
+    if placed.is_behind_point(saying.passage, place):
         return None, BEHIND_POINT
-    return End(saying, place, nearest(spots, place)), ""
+    return End(saying, start, place, nearest(spots, place)), ""
+
+
+def other_signal(placed: PlacedPlan, saying: Saying, name: str, options: Options) -> Tuple[Sequence[Differing], str]:
+    """Where an authority ends, if that is not at the signal of this name; or why the two are not compared."""
+    passage, packet = saying
+    end, why = end_of(placed, saying)
+    if end is None:
+        return [], why
+    spots = placed.tracks.spots("signal", end.start.track, end.start.way)
+    own = [spot for spot in spots if spot.row.name == name]
+    if not own:
+        return [], ANOTHER_TRACK
+    signal, allowed = nearest(own, end.place), allowance(packet, packet.lengths)
+    if abs(signal.place - end.place) <= placed.decoded.tolerance(options.tolerance, allowed):
+        return [], ""
+    words = f"the authority ends at {placed.km(passage, end.place)}, and at {name} (km {kilometre(signal.row.km)})"
+    return [(words, {"km": placed.km_value(passage, end.place), "plan_km": signal.row.km})], ""
 
 
 def _remark(placed: PlacedPlan, ends: Sequence[End]) -> Remark:
-    saying, place, signal = ends[0]
+    saying, start, place, signal = ends[0]
     passage, apart = saying.passage, abs(place - signal.place)
     name = f", {clean(signal.row.name)}" if signal.row.name else ""
-    side = "beyond" if (place - signal.place) * (passage.way or 0) > 0 else "short of"
+    side = "beyond" if (place - signal.place) * start.way > 0 else "short of"
     sentence = (
         f"the authority ends at {placed.km(passage, place)}, {metres(apart)} m {side} the nearest signal of the "
         f"plan{name} ({plan_words(signal.row)})"

@@ -1,14 +1,20 @@
 """X4: aspect other than in the route table of the plan.
 
 What it says. The packet 12 of an aspect differs from the plan's row for this aspect, such as in V_MAIN, end, overlap or
-release speed. The rule also reports a row of the plan whose aspect has no packet 12 for trains that run the way of the
-row. It rests on SUBSET-026, 7.4.2 and 7.5.1.
+release speed. The rule also compares the mode, the stop orders and the links of the aspect if the row states them. It
+also reports a row of the plan whose aspect has no packet 12 for trains that run the way of the row. It rests on
+SUBSET-026, 7.4.2 and 7.5.1.
 - The rule compares only what the row of the plan states.
 - The end of authority is compared as a distance from the group.
 - The release speed belongs to the overlap, or to the danger point if there is no overlap.
 - If the row states a time or a place of a timer that the packet does not have, the remark gives `none` for the packet.
 - Lengths may differ by the rounding of Q_SCALE and by `--tolerance` (default 0).
 - A missing packet 12 is reported only if the table has the aspect and no telegram of the aspect is refused.
+- A row with only `authority`, `mode`, `stop` or `links` needs no packet 12. With `authority=none` a packet 12 is
+  reported.
+- `mode` is compared with the one mode of packet 80, `stop` with packets 137 and 132, and `links` with the groups that
+  packet 5 names. If the row states no `way`, one direction of the aspect must have them.
+- `to` is compared with the place of the row `signal` that has this name, as X3 compares ends.
 - The kilometre and the track of the row are not compared. A note names the rows that have another track than the group,
   or a kilometre more than 50 m from it.
 - A packet 12 that follows a packet 136 is not compared, and does not count as the packet 12 of the aspect.
@@ -36,27 +42,25 @@ from __future__ import annotations
 
 from collections import Counter
 from decimal import Decimal
-from typing import Dict, Iterator, List, Optional, Set
+from typing import Dict, Iterator, List, Set
 
 from balisekit.rules.line import Line
 from balisekit.rules.passages import Passage
-from balisekit.rules.track_plan.placed import NO_PLACE, SAYS_NOTHING, PlacedPlan, Saying, cells_of, plan_words, remark
 from balisekit.rules.rule import Options, Remark, Result, Rule, Urgency
-from balisekit.rules.track_plan.sites import Site, elsewhere, sites_of
-from balisekit.rules.telegrams import Packet, allowance
+from balisekit.rules.track_plan.aspect_sites import Site, of_other_packets, sites_of
+from balisekit.rules.track_plan.aspect_terms import AUTHORITY, all_terms_of, allowances, both, is_alike, values_of
+from balisekit.rules.track_plan.placed import NO_PLACE, SAYS_NOTHING, Counts, PlacedPlan, Saying, cells_of
+from balisekit.rules.track_plan.placed import plan_words, remark
+from balisekit.rules.track_plan.sites import elsewhere
+from balisekit.rules.track_plan.x3_ends import other_signal
 from balisekit.tables.plan import WAY_WORDS, PlanRow, aspect_name
-from balisekit.tables.plan_values import LENGTHS, STEP, TIMES, Terms, term_words
+from balisekit.tables.plan_values import OTHER_KEYS
 
-AUTHORITY = 12
-FIELDS = {"v": "V_MAIN", "end": "the end of authority", "overlap": "the overlap", "release": "the release speed"}
-FIELDS.update(danger="the danger point", loa="V_LOA", loa_time="T_LOA", end_time="T_ENDTIMER", overlap_time="T_OL")
-FIELDS.update(end_start="D_ENDTIMERSTARTLOC", overlap_start="D_STARTOL")
-NO_TIME_OUT = 1023
 REFUSED = "a refused telegram of the aspect"
 
 
 def find(line: Line, options: Options) -> Result:
-    """Compares each packet 12 of each aspect."""
+    """Compares each packet 12 of each aspect, then what its other packets give."""
     placed, counts = PlacedPlan(line, options), Counter[str]()
     found: List[Remark] = []
     matched: Set[int] = set()
@@ -67,80 +71,54 @@ def find(line: Line, options: Options) -> Result:
         matched.update(row.number for row in (fitting if passage.way else rows))
         for packet in own:
             counts["" if fitting else NO_PLACE if rows and passage.way is None else SAYS_NOTHING] += 1
-            found += [each for row in fitting for each in _compare(Saying(passage, packet), row, options)]
+            for row in (row for row in fitting if not _needs_none(row)):
+                found += _compare(placed, Saying(passage, packet), row, options, counts)
     sites = sites_of(line.decoded)
-    left = [row for rows in placed.plan.aspects.values() for row in rows if row.number not in matched]
-    known = [row for row in left if row.name in sites]
-    found += [_lacking(sites[row.name], row) for row in known if sites[row.name].is_read]
-    counts[REFUSED] += sum(not sites[row.name].is_read for row in known)
+    for row in (row for rows in placed.plan.aspects.values() for row in rows):
+        site = sites.get(row.name)
+        if site and site.is_read:
+            found += [] if row.number in matched or _needs_none(row) else [_lacking(site, row)]
+            found += of_other_packets(site, row, int(options.tolerance * 10), counts)
+        elif site and row.number not in matched:
+            counts[REFUSED] += 1
     return placed.result(["aspect"], found, +counts, elsewhere(placed, sites))
 
 
-def all_terms_of(packet: Packet) -> Terms:
-    """The same, and the keys that no plan has which is made of telegrams."""
-    form, unit, found = packet.form, packet.unit, dict(terms_of(packet))
-    overlap, danger, timer = form.get("overlap"), form.get("danger_point"), form.get("end_timer")
-    found["danger"] = danger["d_dp"] * unit if danger else None
-    found["loa"] = form["end_speed"]
-    found["end_start"] = timer["d_endtimerstartloc"] * unit if timer else None
-    found["overlap_start"] = overlap["d_startol"] * unit if overlap else None
-    times = {"loa_time": form["end_timeout"]}
-    times.update({"end_time": timer["t_endtimer"]} if timer else {})
-    times.update({"overlap_time": overlap["t_ol"]} if overlap else {})
-    return {**found, **{key: None if time == NO_TIME_OUT else time for key, time in times.items()}}
-
-
-def terms_of(packet: Packet) -> Terms:
-    """What a packet 12 gives, by the keys of a plan's aspect."""
-    authority, overlap, danger = packet.authority, packet.form.get("overlap"), packet.form.get("danger_point")
-    found: Dict[str, Optional[int]] = {"v": packet.form["v_main"], "end": authority.end}
-    found["overlap"] = overlap["d_ol"] * packet.unit if overlap else None
-    if overlap or danger:
-        found["release"] = overlap["v_releaseol"] if overlap else danger["v_releasedp"] if danger else None
-    return found
+def _needs_none(row: PlanRow) -> bool:
+    """Whether a row says nothing that a packet 12 has."""
+    return row.terms.keys() <= {*OTHER_KEYS}
 
 
 def _name(passage: Passage) -> str:
     return aspect_name(passage.group.group.group.name, passage.aspect) if passage.group else ""
 
 
-def _compare(saying: Saying, row: PlanRow, options: Options) -> Iterator[Remark]:
-    """One remark on all values that differ."""
-    packet, said = saying.packet, all_terms_of(saying.packet)
-    more = int(options.tolerance * 10)
-    allowed = {**dict.fromkeys(LENGTHS, more + allowance(packet)), "end": more + allowance(packet, packet.lengths)}
-    differ = [key for key, value in row.terms.items() if not _is_alike(said.get(key), value, allowed.get(key, 0))]
-    if differ:
-        texts = [
-            f"{FIELDS[key]} is {term_words(key, said.get(key))}, and {term_words(key, row.terms[key])}"
-            for key in differ
-        ]
-        values = {}
-        for key in differ:
-            unit = "m" if key in LENGTHS else "s" if key in TIMES else "kmh"
-            for name, value in ((f"{key}_{unit}", said.get(key)), (f"plan_{key}_{unit}", row.terms[key])):
-                if value is not None:
-                    values[name] = (
-                        Decimal(value) / 10 if unit == "m" else Decimal(value * (STEP if unit == "kmh" else 1))
-                    )
+def _compare(placed: PlacedPlan, saying: Saying, row: PlanRow, options: Options, counts: Counts) -> Iterator[Remark]:
+    """One remark on all values of a packet 12 that differ."""
+    said, allowed = all_terms_of(saying.packet), allowances(saying.packet, int(options.tolerance * 10))
+    texts: List[str] = []
+    values: Dict[str, Decimal] = {}
+    for key, wanted in row.terms.items():
+        if key not in (*OTHER_KEYS, "to") and not is_alike(key, said.get(key), wanted, allowed.get(key, 0)):
+            texts.append(both(key, said.get(key), wanted))
+            values.update(values_of(key, said.get(key), wanted))
+    if "to" in row.terms:
+        differing, why = other_signal(placed, saying, str(row.terms["to"]), options)
+        counts.update({why: counts.get(why, 0) + 1} if why else {})
+        texts += [each for each, _ in differing]
+        values.update(pair for _, some in differing for pair in some.items())
+    if texts:
         sentence = f"{' by the plan; '.join(texts)} by {plan_words(row, with_km=False)}"
         yield remark("X4", [saying], sentence, values, [cells_of(row)])
 
 
-def _is_alike(said: Optional[int], wanted: Optional[int], allowed: int) -> bool:
-    return said == wanted or (said is not None and wanted is not None and abs(said - wanted) <= allowed)
-
-
 def _lacking(site: Site, row: PlanRow) -> Remark:
     """An aspect of the plan that gives no authority for its way."""
-    rows = next(each.rows for each in site.data.group.group.aspects if each.name == site.aspect)
     way = f" for {WAY_WORDS[row.way]} trains" if row.way else ""
-    own = (each for each in site.data.passages if each.aspect == site.aspect and row.way in (0, each.way))
-    infill = " before its packet 136" if any(each.number == AUTHORITY for one in own for each in one.infill) else ""
+    own = (each for one in site.passages(row) for each in one.infill)
+    infill = " before its packet 136" if any(each.number == AUTHORITY for each in own) else ""
     sentence = f"the aspect has no packet 12{way}{infill}, and {plan_words(row, with_km=False)} has one"
-    where = site.data.location()
-    numbers = tuple(each.number for each in rows)
-    return Remark("X4", where, sentence, rows=numbers, aspects=(site.aspect,), facts=[cells_of(row)])
+    return site.remark(row, sentence)
 
 
 RULE = Rule("X4", "authorities of aspects", __doc__ or "", find, Urgency.WRONG_INFORMATION)

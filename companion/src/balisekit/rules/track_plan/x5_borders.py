@@ -43,6 +43,7 @@ from __future__ import annotations
 from collections import Counter
 from typing import Dict, Iterator, List, Optional, Sequence, Set, Tuple
 
+from balisekit.design.tracks import Spot, nearest
 from balisekit.rules.line import Line
 from balisekit.rules.meaning.along import unread_of
 from balisekit.rules.track_plan.borders import NOT_DECODED, NUMBERS, Border, border_of, numbers
@@ -52,9 +53,7 @@ from balisekit.rules.track_plan.placed import (
     SAYS_NOTHING,
     BEYOND,
     PlacedPlan,
-    Spot,
     cells_of,
-    nearest,
     plan_words,
     remark,
 )
@@ -84,7 +83,8 @@ def find(line: Line, options: Options) -> Result:
             continue
         tolerance = line.decoded.tolerance(options.tolerance, allowance(saying.packet))
         spots, place, why = _wanted(placed, border, tolerance)
-        if border.has_place and not why and placed.is_lost(border.kind, saying.passage, place, tolerance):
+        start = placed.start(saying.passage)
+        if border.has_place and not why and start and placed.tracks.is_lost(border.kind, start, place, tolerance):
             spots, why = (), NO_PLACE
         named.update(spot.row.number for spot in spots)
         counts[why] += 1
@@ -107,12 +107,13 @@ def find(line: Line, options: Options) -> Result:
 def _wanted(placed: PlacedPlan, border: Border, tolerance: int) -> Tuple[Sequence[Spot], int, str]:
     """The rows of the plan with which a border is compared, and its place; or why it is not compared."""
     passage = border.saying.passage
-    place, way = passage.place(border.distance), passage.way
+    start = placed.start(passage)
     if not border.text:
         return (), 0, NOT_DECODED
-    if place is None or way is None:
+    if start is None:
         return (), 0, NO_PLACE
-    spots = placed.spots(border.kind, passage.track, way)
+    place, way = start.at(border.distance), start.way
+    spots = placed.tracks.spots(border.kind, start.track, way)
     if not spots:
         return (), place, SAYS_NOTHING
     if placed.is_behind_point(passage, place):

@@ -64,7 +64,7 @@ def _tracks(placed: PlacedPlan, tracks: Sequence[str]) -> Iterator[Remark]:
     for track, rows in missing.items():
         name = f"track {track}" if track else "no track"
         what = f"no track {quoted(track)}" if track else "no group without a track"
-        yield _remark(rows, what, _meant(track, tracks), Location(listed=name), name)
+        yield _remark(rows, what, meant(track, tracks), Location(listed=name), name)
 
 
 def _aspects(placed: PlacedPlan, groups: Mapping[str, GroupData]) -> Iterator[Remark]:
@@ -78,7 +78,7 @@ def _aspects(placed: PlacedPlan, groups: Mapping[str, GroupData]) -> Iterator[Re
             missing.setdefault(row.name, []).append(row)
     looked_for = LOOKED_FOR
     for name, rows in placed.plan.aspects.items():
-        group = None if name in known else _group_of(name, groups)
+        group = None if name in known else group_of(name, groups)
         if name in known:
             continue
         if group is None:
@@ -86,22 +86,22 @@ def _aspects(placed: PlacedPlan, groups: Mapping[str, GroupData]) -> Iterator[Re
             continue
         looked_for -= 1
         own = [each for each, of in known.items() if of == group] if looked_for > 0 else []
-        yield _remark(rows, f"no aspect {quoted(name)}", _meant(name, own), groups[group].location(), name)
+        yield _remark(rows, f"no aspect {quoted(name)}", meant(name, own), groups[group].location(), name)
     for number, (name, rows) in enumerate(missing.items()):
         rows.sort(key=lambda row: row.number)
-        like = _meant(name, list(groups)) if number < LOOKED_FOR else ""
+        like = meant(name, list(groups)) if number < LOOKED_FOR else ""
         yield _remark(rows, f"no group {quoted(name)}", like, Location(listed=name), name)
 
 
-def _group_of(name: str, groups: Mapping[str, GroupData]) -> Optional[str]:
-    """The group of the table that an aspect is of, by its name: the longest one."""
+def group_of(name: str, groups: Mapping[str, GroupData]) -> Optional[str]:
+    """The group of the table that an aspect of the plan is of, by its name: the longest one."""
     ends = [place for place, letter in enumerate(name) if letter == "/"]
     names = (name[:end] for end in [len(name), *reversed(ends)])
     return next((each for each in names if each in groups), None)
 
 
-def _meant(name: str, known: Sequence[str]) -> str:
-    """The name of the table that is most alike, in words."""
+def meant(name: str, known: Sequence[str]) -> str:
+    """The question whether the one of these names that is most alike is meant, or nothing."""
     from difflib import get_close_matches  # (few plans need it)
 
     folded = {each.casefold(): each for each in reversed(known) if each}
