@@ -31,7 +31,7 @@ ANY: Any = balisekit
 """The package for calls with arguments of other types."""
 PLAN = TOP / "examples" / "meaning"
 FUNCTIONS = """\
-check(table, *, messages, only, accepted, plan, jumps, tolerance, line_speed, release_speed, rules, rules_from, \
+check(table, *, messages, only, accepted, plan, design, jumps, tolerance, line_speed, release_speed, rules, rules_from, \
 columns, by_position, everything, program)
 diff(old, new)
 read_messages(path)
@@ -182,7 +182,7 @@ def test_errors_are_kit_errors(program: Program) -> None:
         ({"rules": "E99"}, "rules: E99 is no rule"),
         ({"only": "Q"}, "only: Q is no list of F, L, E, X, U"),
         ({"only": "F", "line_speed": 160}, "--line-speed is not used with --only F"),
-        ({"only": "X"}, "--only X needs a track plan"),
+        ({"only": "X"}, "--only X needs a design of the line"),
     ):
         with pytest.raises(balisekit.KitError, match=said) as raised:
             balisekit.check(LINE, program=program, **more)

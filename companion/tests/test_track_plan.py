@@ -1076,7 +1076,9 @@ def test_options(run: Run, program: Program, tmp_path: Path) -> None:
     path, file = written(program, tmp_path / "t.csv"), tmp_path / "p.csv"
     assert run("plan", path, "--csv", file)[0] == 0
     for only in ("X", "X,X"):
-        assert run("check", path, "--only", only)[2] == ["balisekit: --only X needs a track plan: give --plan FILE"]
+        assert run("check", path, "--only", only)[2] == [
+            "balisekit: --only X needs a design of the line: give --design FILE"
+        ]
     assert run("check", path, "--plan", file, "--only", "F,L")[2] == ["balisekit: --plan is not used with --only F,L"]
     assert run("check", path, "--plan", tmp_path / "none.csv")[2] == [
         f"balisekit: {tmp_path / 'none.csv'}: No such file or directory"

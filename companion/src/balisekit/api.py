@@ -192,6 +192,7 @@ def check(
     only: Optional[str] = None,
     accepted: Optional[Path] = None,
     plan: Optional[Path] = None,
+    design: Union[Path, Sequence[Path], None] = None,
     jumps: Optional[Path] = None,
     tolerance: Optional[Number] = None,
     line_speed: Optional[int] = None,
@@ -216,6 +217,7 @@ def check(
     given = {"plan": plan, "jumps": jumps, "tolerance": tolerance, "line_speed": line_speed}
     given.update(release_speed=release_speed, rules=_names_of(rules))
     vars(options).update({name: None if value is None else _read(name, value) for name, value in given.items()})
+    options.design = _design(design)
     options.rules_from = _rules_from(rules_from)
     options.only = None if only is None else _asked(commands.families_of, "only", only)
     options.accepted = None if accepted is None else InputPath(stated.path(accepted))
@@ -286,6 +288,14 @@ def _rules_from(given: Sequence[Union[Path, AddedRule]]) -> Optional[List[Any]]:
     """The rules of users as the command has them. An empty list names none."""
     stated.look_at_list("rules_from", given)
     return [each if isinstance(each, AddedRule) else _read("rules_from", each) for each in given] or None
+
+
+def _design(given: Union[Path, Sequence[Path], None]) -> Optional[List[Any]]:
+    """The files of a design as the command has them. An empty list names none."""
+    if given is None or isinstance(given, (str, os.PathLike)):
+        return None if given is None else [_read("design", given)]
+    stated.look_at_list("design", given)
+    return [_read("design", each) for each in given] or None
 
 
 def _names_of(rules: Union[str, Sequence[str], None]) -> Optional[str]:

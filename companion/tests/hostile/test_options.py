@@ -52,7 +52,7 @@ REFUSED = [
     ("draw LINE --track --svg a --svg -", "error: argument --svg: it is given twice"),
     ("check LINE --only F --tolerance 1", "--tolerance is not used with --only F"),
     ("check LINE --only Y", "error: argument --only: Y is no list of F, L, E, X, U: write F or F,L"),
-    ("check LINE --only X", "--only X needs a track plan: give --plan FILE"),
+    ("check LINE --only X", "--only X needs a design of the line: give --design FILE"),
     ("check LINE --only F --only L", "error: argument --only: it is given twice"),
     ("show LINE --tolerance 1", "error: unrecognized arguments: --tolerance 1"),
     ("show LINE --json x", "error: unrecognized arguments: --json x"),

@@ -77,7 +77,7 @@ def _source(
         _setting(f"check.{key}", each, key in own_headings.FILES, replaced.get(key, ""))
         for key in keys
         if key in check and (key in given or (key, check[key]) != DEFAULT)
-        for each in (check[key] if key == own_headings.RULES_FROM else [check[key]])
+        for each in _each(key, check[key])
     ]
     sheets = [own_headings.COLUMNS_TABLE, *([own_headings.EXPECT_TABLE] if getattr(options, "expect", None) else [])]
     for table in sheets:
@@ -86,6 +86,12 @@ def _source(
     heading = file.tables[own_headings.REPORT_TABLE] if headed else {}
     stated += [_setting(f"report.{key}", value) for key, value in heading.items()]
     return Source(file.path, file.sha256, tuple(stated))
+
+
+def _each(key: str, value: object) -> Sequence[object]:
+    """The values of a key of [check]: a setting for each file or package of a list."""
+    of_files = key in own_headings.FILES or key == own_headings.RULES_FROM
+    return value if isinstance(value, list) and of_files else [value]
 
 
 def _with_rules(settings: Iterable[Setting], added: Sequence[Rule]) -> Iterator[Setting]:

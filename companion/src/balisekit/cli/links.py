@@ -30,7 +30,7 @@ def run(options: argparse.Namespace) -> int:
     program, table, messages = shared.inputs(options)
     refuse_without_kilometres(table)
     checked = checking.check(program, table, messages, options.by_position)
-    checked = replace(checked, settings=in_force(options, [table], ("tolerance", "jumps", "plan")))
+    checked = replace(checked, settings=in_force(options, [table], ("tolerance", "jumps", "plan", "design")))
     outcome = apply(checked, LETTERS, line)
     links = next(part.applied for part in outcome.parts if part.applied)
     if options.json:

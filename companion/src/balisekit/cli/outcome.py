@@ -50,7 +50,7 @@ def stated(options: argparse.Namespace) -> Options:
     settings.refuse_unused(options, asked)
     line = settings.of_line(options)
     if set(asked) == {PLAN} and line.plan is None:
-        raise TableError("--only X needs a track plan: give --plan FILE")
+        raise TableError("--only X needs a design of the line: give --design FILE")
     if ADDED in (options.only or ()) and not families(line)[ADDED].rules:
         raise TableError("--only U needs rules: give --rules-from, and --rules for those that are off")
     return line

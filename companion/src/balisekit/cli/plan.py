@@ -41,7 +41,7 @@ def run(options: argparse.Namespace) -> int:
     """Does it. The answer is the exit status."""
     jumps = settings.jumps(options)
     checked = checking.check(*shared.inputs(options), options.by_position, options.all)
-    checked = replace(checked, settings=in_force(options, [checked.table], ("jumps", "plan")))
+    checked = replace(checked, settings=in_force(options, [checked.table], ("jumps", "plan", "design")))
     line = Line.of(checked, jumps)
     made = implied(line, Options(jumps=jumps))
     made = made._replace(notes=[*made.notes, *_left_out(line)])

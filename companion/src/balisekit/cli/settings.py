@@ -18,15 +18,19 @@ from balisekit.rules import meaning
 from balisekit.rules.chainage import Jump, look_at, read_jumps
 from balisekit.rules.discovery import ADDED, ADDED_NAME
 from balisekit.rules.rule import ALL, LINE_SPEED, RELEASE_SPEED, Options, Rule
-from balisekit.tables import own_headings, plan as plan_file
+from balisekit.tables import designs, own_headings
 from balisekit.tables.cells import GREATEST_NAME
 from balisekit.tables.names import clean
+from balisekit.tables.plan import Plan
 
 GREATEST_LINE_SPEED, GREATEST_RELEASE_SPEED = 500, 100
 """In km/h. ETCS has speeds up to 600 km/h, but no line is that fast, and trains are released at 40 km/h or less."""
 NAMES = [rule.name for rule in meaning.RULES]
 JUMPS = "a CSV file with km, km_after and track: the places at which the kilometres jump"
-PLAN = "a CSV file that describes the track: the rules X compare the telegrams with it"
+DESIGN = (
+    "a file of the line's design, for the rules X: a workbook with a sheet for each kind, or a CSV; can be repeated"
+)
+PLAN = "a CSV file that describes the track: a part of the design, as those of --design are"
 RULES = "rules E or added ones to apply too, with their parts that are off by default: E2,E20 or all"
 RULES_FROM = "a file of Python with a rule of your own, or an installed package with such rules; can be repeated"
 
@@ -93,6 +97,7 @@ KINDS: Mapping[str, Kind] = {
     "tolerance": Kind(shared.tolerance, (int, float), "2.5", "LEX"),
     "jumps": Kind(str, (str,), '"jumps.csv"', "LEX"),
     "plan": Kind(str, (str,), '"plan.csv"', "LEX"),
+    "design": Kind(str, (str, list), '"design.xlsx"', "LEX", one_by_one=True),
     "rules": Kind(_rules, (str, list), '["E2", "E20"]', f"E{ADDED}"),
     "layouts": Kind(_layouts, (list,), "[39, 67]", "E", item=int),
     "rules_from": Kind(_rules_from, (list,), '["acme.py"]', ADDED, one_by_one=True),
@@ -114,6 +119,7 @@ def add_options(parser: argparse.ArgumentParser) -> None:
     parser.add_argument("--release-speed", **shared.value("KM/H", _release_speed, release))
     parser.add_argument("--jumps", **shared.input_file(JUMPS))
     parser.add_argument("--plan", **shared.input_file(PLAN))
+    parser.add_argument("--design", action="append", **shared.input_file(DESIGN))
     parser.add_argument("--rules", **shared.value("RULES", _rules, RULES))
     parser.add_argument("--rules-from", action="append", **shared.value("FILE.py", _rules_from, RULES_FROM))
 
@@ -125,7 +131,8 @@ def used_by(letters: Sequence[str]) -> Sequence[str]:
 
 def refuse_unused(options: argparse.Namespace, letters: Sequence[str]) -> None:
     """Raises TableError if an option is given that the rules of these families do not use."""
-    used = set(used_by(letters)) - ({"plan"} if {"E", "X"}.isdisjoint(letters) else set())  # (L uses only its jumps)
+    of_design = {"plan", "design"} if {"E", "X"}.isdisjoint(letters) else set()  # (L uses only its jumps)
+    used = set(used_by(letters)) - of_design
     shared.refuse_unused(options, f"with --only {','.join(letters)}", *(name for name in KINDS if name not in used))
 
 
@@ -137,7 +144,7 @@ def of_line(options: argparse.Namespace) -> Options:
     more: Dict[str, Any] = {}
     if "tolerance" in stated:
         more["tolerance"] = more["tolerance_of_places"] = stated["tolerance"]
-    plan = plan_file.read(stated["plan"]) if "plan" in stated else None
+    plan = _design(options, stated)
     known = added(options, stated)
     asked = stated.get("rules", frozenset())
     for name in sorted(asked.difference(NAMES, (ALL, *(rule.name for rule in known)))):
@@ -173,15 +180,25 @@ def added(options: argparse.Namespace, stated: Optional[Mapping[str, Any]] = Non
 def jumps(options: argparse.Namespace) -> Tuple[Jump, ...]:
     """Where the kilometres jump, by the option, by balisekit.toml and by its plan, which need not be written yet."""
     stated = {**_of_file(options), **given(options)}
-    is_written = os.path.exists(stated.get("plan", ""))
-    return _jumps(stated, plan_file.read(stated["plan"]) if is_written else None)
+    written = {**stated, "design": [each for each in stated.get("design", ()) if os.path.exists(each)]}
+    if not os.path.exists(stated.get("plan", "")):
+        written.pop("plan", None)
+    return _jumps(stated, _design(options, written))
 
 
-def _jumps(stated: Mapping[str, Any], plan: Optional[plan_file.Plan]) -> Tuple[Jump, ...]:
+def _design(options: argparse.Namespace, stated: Mapping[str, Any]) -> Optional[Plan]:
+    """The design of all files that are stated, if there is one."""
+    plan, files = stated.get("plan"), stated.get("design", ())
+    headings = own_headings.of_design(options.table, options.columns)
+    return designs.read(plan, files, headings) if files or plan is not None else None
+
+
+def _jumps(stated: Mapping[str, Any], plan: Optional[Plan]) -> Tuple[Jump, ...]:
     """Those of the file of jumps, and those of the plan, each once."""
     own = read_jumps(stated["jumps"]) if "jumps" in stated else ()
     found = tuple(dict.fromkeys([*own, *(Jump(*each) for each in (plan.jumps if plan else ()))]))
-    with faults_of(" and ".join(stated[name] for name in ("jumps", "plan") if name in stated)):
+    files = [stated[name] for name in ("jumps", "plan") if name in stated]
+    with faults_of(" and ".join([*files, *stated.get("design", ())])):
         look_at(found)
     return found
 
@@ -206,8 +223,9 @@ def _look_at_files(options: argparse.Namespace, stated: Mapping[str, Any]) -> No
         if "rules_from" in stated and hasattr(options, "rules_from"):
             _refuse_found(path, options)
         for name in sorted(own_headings.FILES & (stated.keys() - given(options).keys())):
-            if not os.path.lexists(stated[name]):
-                raise TableError(f"[check] {name}: there is no file {clean(stated[name][:GREATEST_NAME])}")
+            for file in stated[name] if isinstance(stated[name], list) else [stated[name]]:
+                if not os.path.lexists(file):
+                    raise TableError(f"[check] {name}: there is no file {clean(file[:GREATEST_NAME])}")
 
 
 def _refuse_found(path: str, options: argparse.Namespace) -> None:
@@ -226,8 +244,8 @@ def _value(name: str, value: object) -> Any:
     if isinstance(value, int) and value.bit_length() > LONGEST:
         raise TableError(f"[check] {name} is a number of more than 18 digits: write {name} = {kind.example}")
     try:
-        if isinstance(value, list) and kind.one_by_one:
-            return list(map(kind.read, value))
+        if kind.one_by_one:
+            return list(map(kind.read, value if isinstance(value, list) else [str(value)]))
         return kind.read(",".join(map(str, value)) if isinstance(value, list) else str(value))
     except argparse.ArgumentTypeError as error:
         raise TableError(f"[check] {name}: {error}") from error

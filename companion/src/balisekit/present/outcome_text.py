@@ -33,7 +33,8 @@ from balisekit.rules.discovery import ADDED
 from balisekit.rules.entries import Entry
 from balisekit.rules.families import PLAN, PROVED, Outcome, Part
 from balisekit.rules.remarks import remarks
-from balisekit.tables.names import clean, notes_on
+from balisekit.tables.names import NAMED, clean, listed, notes_on, quoted
+from balisekit.tables.plan import Plan
 
 LINKS, MEANING = "L", "E"
 COUNTED = (LINKS, PLAN, ADDED)
@@ -130,7 +131,7 @@ def answer(
     checked, judged, table = outcome.checked, outcome.judged, outcome.checked.table
     yield AnswerLine(Kind.HEAD, head_line(table, shown))
     yield from map(AnswerLine, (Kind.PROGRAM, Kind.SETTINGS, Kind.ACCEPTED), opening(checked, judged, shown))
-    yield from _of(Kind.TABLE, notes_on(table))
+    yield from _of(Kind.TABLE, [*notes_on(table), *notes_on_design(outcome.design, shown)])
     yield from _of(Kind.REFUSED, refused_lines(checked))
     yield from _of(Kind.LEFT_OUT, left_out_lines(checked))
     yield from _of(Kind.NOT_TRIED, (f"and {count}: --all continues" for count in not_tried(checked)))
@@ -149,6 +150,15 @@ def answer(
     yield from _of(Kind.NOT_APPLIED, not_applied(outcome, shown))
     yield from _of(Kind.DOCUMENT, notes)
     yield from _closing(outcome, shown)
+
+
+def notes_on_design(design: Optional[Plan], shown: Shown) -> Iterator[str]:
+    """Notes on how the files of a design were read, and on their sheets that were not."""
+    for file in design.files if design else ():
+        yield from (f"note: {clean(shown(file.path))}: {clean(note)}" for note in file.notes)
+        if file.others:
+            names = listed([quoted(name) for name in file.others], NAMED)
+            yield f"note: {clean(shown(file.path))}: sheets without headings of a design, which are not read: {names}"
 
 
 def _of(kind: Kind, texts: Iterable[str], part: Optional[Part] = None) -> Iterator[AnswerLine]:

@@ -28,6 +28,7 @@ from balisekit.rules.statements.scene import BaliseName
 from balisekit.tables.account import Account
 from balisekit.tables.grouping import EVERY
 from balisekit.tables.model import Table
+from balisekit.tables.plan import Plan
 
 PROVED, PLAN = "F", "X"
 """The family of the program, and the one that needs a track plan."""
@@ -133,6 +134,8 @@ class Outcome:
     """The rules that somebody has asked for by name, although `--only` leaves out their family."""
     with_all: bool = False
     """Whether somebody has asked for all that was not looked at."""
+    design: Optional[Plan] = None
+    """The design of the line, if its rules were applied."""
 
     def __repr__(self) -> str:
         return f"<Outcome of {self.checked.table.path}: status {self.status}, {len(self.entries)} entries>"
@@ -263,7 +266,8 @@ def apply(
     if with_causes:
         found = _with_causes(checked, found, partial(_judged_again, checked, asked, options), options)
         found = [part._replace(open=with_stop_aspects(part.open), accepted=part.accepted) for part in found]
-    return Outcome(checked, found, judged, able != asked, off, options.replaced, outside)
+    design = options.plan if any(family.letter == PLAN for family in asked) else None
+    return Outcome(checked, found, judged, able != asked, off, options.replaced, outside, design=design)
 
 
 def _able(checked: Checked, asked: Sequence[Family]) -> Sequence[Family]:

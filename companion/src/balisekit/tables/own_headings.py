@@ -13,10 +13,13 @@ from balisekit.tables.headings import Headings, alike
 
 BESIDE = "balisekit.toml"
 """The file that is read if it is in the folder of the table."""
-COLUMNS_TABLE, EXPECT_TABLE, CHECK_TABLE, REPORT_TABLE = "columns", "expect", "check", "report"
+COLUMNS_TABLE, EXPECT_TABLE, DESIGN_TABLE = "columns", "expect", "design"
+CHECK_TABLE, REPORT_TABLE = "check", "report"
 SHEET = ("group", "identity", "aspect", "balise", "packet", "element", "variable", "raw", "value", "unit", "km")
 """The columns of a flat table of variables."""
-KNOWN = {COLUMNS_TABLE: tuple(dict.fromkeys((*COLUMNS, *SHEET))), EXPECT_TABLE: SHEET}
+DESIGN = ("kind", "km", "km_to", "track", "way", "value", "name", "who")
+"""The columns of a design: `who` has the name of the engineer who confirmed a row."""
+KNOWN = {COLUMNS_TABLE: tuple(dict.fromkeys((*COLUMNS, *SHEET))), EXPECT_TABLE: SHEET, DESIGN_TABLE: DESIGN}
 
 
 class ReportHeading(NamedTuple):
@@ -39,7 +42,17 @@ class Found(NamedTuple):
 
 
 STATED = {
-    CHECK_TABLE: ("line_speed", "release_speed", "tolerance", "jumps", "plan", "rules", "rules_from", "layouts"),
+    CHECK_TABLE: (
+        "line_speed",
+        "release_speed",
+        "tolerance",
+        "jumps",
+        "plan",
+        "design",
+        "rules",
+        "rules_from",
+        "layouts",
+    ),
     REPORT_TABLE: ReportHeading._fields,
 }
 """The tables by which a project states something, and the keys of each."""
@@ -48,8 +61,8 @@ GREATEST_FILE = 1_000_000
 LONG_NUMBER, KEY = expression("[0-9](?:_?[0-9]){4000}"), expression(r"""\s*([A-Za-z0-9_."' -]{1,100}?)\s*=""")
 """A number that Python does not read, and the key at the beginning of a line."""
 RULES_FROM = "rules_from"
-FILES = {"jumps", "plan"}
-"""The keys of [check] whose values are paths, relative to the folder of the file."""
+FILES = {"jumps", "plan", "design"}
+"""The keys of [check] whose values are paths, relative to the folder of the file. That of `design` can be a list."""
 
 
 def of_table(path: str, named: Optional[str]) -> Headings:
@@ -67,6 +80,13 @@ def of_sheet(path: str, named: Optional[str], needed_columns: Sequence[str]) -> 
     own = of_expect or tables.get(COLUMNS_TABLE, {})
     known = {name: own[name] for name in SHEET if name in own}
     return Headings(SHEET, tuple(needed_columns), known, file, bool(named and of_expect))
+
+
+def of_design(path: str, named: Optional[str]) -> Headings:
+    """The headings of the design of a table's line: by [design]."""
+    file = named or beside(path)
+    own = _read(file)[DESIGN_TABLE] if file else {}
+    return Headings(DESIGN, (), own, file)
 
 
 def stated(path: str, named: Optional[str], table: str) -> Tuple[str, Mapping[str, object]]:
@@ -101,14 +121,11 @@ def _read(path: str) -> Dict[str, Dict[str, Any]]:
     """The tables of a file. Lines at the top are those of [columns]."""
     with faults_of(path):
         form = _parsed(inputs.read_settings(path).content)
-        tables = {name: form.pop(name, {}) for name in (COLUMNS_TABLE, EXPECT_TABLE, *STATED)}
+        tables = {name: form.pop(name, {}) for name in (COLUMNS_TABLE, EXPECT_TABLE, DESIGN_TABLE, *STATED)}
         check = tables[CHECK_TABLE]
         _place_rules(path, check)
         for name in FILES.intersection(check if isinstance(check, dict) else ()):
-            if isinstance(check[name], str):
-                if not check[name].strip():
-                    raise TableError(f'[check] {name} is empty: write {name} = "{name}.csv"')
-                check[name] = inputs.claimed(os.path.join(os.path.dirname(path), check[name]))
+            check[name] = _placed(path, name, check[name])
         if form and tables[COLUMNS_TABLE]:
             raise TableError(f"{next(iter(form))} is outside of [columns]: put all headings of the table there")
         tables[COLUMNS_TABLE] = tables[COLUMNS_TABLE] or form
@@ -117,6 +134,17 @@ def _read(path: str) -> Dict[str, Dict[str, Any]]:
         for name, keys in STATED.items():
             _look_at_stated(name, tables[name], keys)
     return tables
+
+
+def _placed(path: str, name: str, value: Any) -> Any:
+    """The path of a key of [check], or each one of a list, from here. Anything else stays: it is refused later."""
+    if isinstance(value, list):
+        return [_placed(path, name, each) for each in value]
+    if not isinstance(value, str):
+        return value
+    if not value.strip():
+        raise TableError(f'[check] {name} is empty: write {name} = "{name}.csv"')
+    return inputs.claimed(os.path.join(os.path.dirname(path), value))
 
 
 def _place_rules(path: str, check: Any) -> None:

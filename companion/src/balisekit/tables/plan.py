@@ -35,15 +35,16 @@ from __future__ import annotations
 from dataclasses import dataclass
 from decimal import Decimal
 from functools import cached_property
-from typing import Callable, Dict, Iterator, List, Mapping, NamedTuple, Optional, Sequence, Tuple, TypeVar
+from typing import Callable, Dict, Iterable, Iterator, List, Mapping, NamedTuple, Optional, Sequence, Tuple, TypeVar
 
 from balisekit.errors import TableError, TableErrors, faults_of
 from balisekit.io import inputs
 from balisekit.io.csv_writing import plain
 from balisekit.tables import csv as csv_file, decimal_commas, plan_values as values
-from balisekit.tables.cells import GREATEST_NAME, Sheet, is_error
+from balisekit.tables.cells import GREATEST_NAME, Sheet, is_error, kind_and_text
 from balisekit.tables.headings import Headings, alike, compared, look_at_cells
-from balisekit.tables.names import clean, kilometre
+from balisekit.tables.names import clean, kilometre, rows_words
+from balisekit.tables.own_headings import DESIGN
 from balisekit.tables.plan_values import GroupTerms, Terms, Value
 from balisekit.tables.reader import head_of, kilometre_of
 
@@ -71,6 +72,10 @@ READERS: Mapping[str, Optional[Callable[[str], Value]]] = {
 NAMED_KINDS = {"aspect": "an aspect needs a name: SIGNAL/ASPECT", "group": "a group needs its name in the table"}
 """The kinds whose rows are found by their names, and what is said if there is none."""
 
+THE_PLAN = "the plan"
+"""What a sentence calls the only file of a design that is named as a plan."""
+ROWS_OF_SHEET = 1 << 32
+"""More rows than a sheet can have."""
 Meaning = TypeVar("Meaning")
 Lane = Tuple[str, str, int]
 """A kind, a track and a way."""
@@ -80,7 +85,7 @@ class PlanRow(NamedTuple):
     """A row of the plan."""
 
     number: int
-    """As a spreadsheet counts."""
+    """As a spreadsheet counts. Those of each further sheet begin with a greater number: no two rows have one number."""
     kind: str
     km: Decimal
     km_to: Optional[Decimal] = None
@@ -90,6 +95,15 @@ class PlanRow(NamedTuple):
     """1 for rising kilometres, -1 for falling ones, 0 for both."""
     value: Value = None
     name: str = ""
+    source: str = THE_PLAN
+    """What a sentence calls the sheet that the row is in."""
+    who: str = ""
+    """Who has confirmed it."""
+
+    @property
+    def shown(self) -> int:
+        """Its number as a spreadsheet counts."""
+        return self.number % ROWS_OF_SHEET
 
     @property
     def number_value(self) -> int:
@@ -126,14 +140,30 @@ class Stretch(NamedTuple):
     """A speed as it is sent, or a gradient in per mille, uphill positive for a train of that way."""
 
 
+class DesignFile(NamedTuple):
+    """A file of a design that was read."""
+
+    path: str
+    sha256: str
+    rows: int
+    """How many rows it has below its headings."""
+    sheets: Tuple[str, ...] = ()
+    """Of a workbook: the sheets that were read."""
+    others: Tuple[str, ...] = ()
+    """Of a workbook: the sheets without any heading of a design, which were not read."""
+    notes: Tuple[str, ...] = ()
+    """How it was read."""
+
+
 @dataclass(frozen=True)
 class Plan:
-    """A track plan."""
+    """A track plan, or the design of a line: one or more files with rows."""
 
     path: str = ""
+    """That of the first file."""
     sha256: str = ""
     rows: Tuple[PlanRow, ...] = ()
-    notes: Tuple[str, ...] = ()
+    files: Tuple[DesignFile, ...] = ()
 
     def of_kind(self, kind: str) -> Sequence[PlanRow]:
         """All rows of a kind, in the order of the file."""
@@ -182,14 +212,45 @@ def aspect_name(group: str, aspect: str) -> str:
     return clean(group if aspect in ("", "*") else f"{group}/{aspect}")
 
 
+def rows_named(rows: Iterable[PlanRow]) -> str:
+    """Rows in a sentence: `rows 3 and 5 of the plan`, and of each sheet if a design has several."""
+    numbers: Dict[str, List[int]] = {}
+    for row in rows:
+        numbers.setdefault(row.source, []).append(row.shown)
+    return " and ".join(f"{rows_words(own)} of {source}" for source, own in numbers.items())
+
+
 def read(path: str) -> Plan:
     """The plan of this file. TableError or TableErrors is raised if it cannot be read."""
     file = inputs.read_settings(path)
     with faults_of(path):
-        headings = Headings(COLUMNS, NEEDED)
+        headings = Headings(DESIGN, NEEDED)
         sheet = csv_file.read(file.content, headings)
-        rows = _rows(sheet, *_head(sheet, headings))
-    return Plan(path, file.sha256, rows, sheet.notes)
+        rows = rows_of(sheet, headings)
+        if not rows:
+            raise TableError("the plan has no row below its heading")
+        refuse_clashes(rows)
+    return Plan(path, file.sha256, rows, (DesignFile(path, file.sha256, len(rows), notes=sheet.notes),))
+
+
+def rows_of(
+    sheet: Sheet, headings: Headings, kind: str = "", source: str = THE_PLAN, before: int = 0
+) -> Tuple[PlanRow, ...]:
+    """The rows of a sheet. All that is wrong with them is raised together.
+
+    `kind` is that of rows whose column `kind` is empty, and `before` is added to their numbers.
+    """
+    place, places = _head(sheet, headings)
+    sheet.look_at_calculated(place + 1, len(sheet.rows[place]), places)
+    rows = _rows(sheet, place, places, kind)
+    return tuple(row._replace(number=before + row.number, source=source) for row in rows)
+
+
+def refuse_clashes(rows: Sequence[PlanRow]) -> None:
+    """TableErrors is raised if rows contradict each other about a place or a name, or name a signal that none has."""
+    faults = [*_clashes(rows), *_unknown_signals(rows)]
+    if faults:
+        raise TableErrors(faults)
 
 
 def cells(row: PlanRow) -> Sequence[str]:
@@ -222,15 +283,15 @@ def _head(sheet: Sheet, headings: Headings) -> Tuple[int, Dict[str, int]]:
         if len(filled) > 1 and not READERS.keys().isdisjoint(filled):
             raise TableError("it is above the headings: put one row with headings above all others", row=number)
     _, places = head_of(sheet, headings)
-    for name in compared(sheet.rows[place]):
-        if name and name not in COLUMNS:
-            meant = alike(name, COLUMNS)
-            hint = f'did you mean "{meant}"?' if meant else f"the columns are {', '.join(COLUMNS)}"
+    for at, name in enumerate(compared(sheet.rows[place])):
+        if name and at not in places.values():
+            meant = alike(name, headings.known)
+            hint = f'did you mean "{meant}"?' if meant else f"the columns are {', '.join(headings.known)}"
             raise TableError(f"there is no column {name[:40]}: {hint}", row=place + 1)
     return place, places
 
 
-def _rows(sheet: Sheet, place: int, places: Mapping[str, int]) -> Tuple[PlanRow, ...]:
+def _rows(sheet: Sheet, place: int, places: Mapping[str, int], kind: str) -> Sequence[PlanRow]:
     """The rows below the headings. All that is wrong with them is raised together."""
     rows: List[PlanRow] = []
     faults: List[TableError] = []
@@ -240,23 +301,31 @@ def _rows(sheet: Sheet, place: int, places: Mapping[str, int]) -> Tuple[PlanRow,
             try:
                 look_at_cells(cells, width, places)
                 found = {name: cells[at] if at < len(cells) else "" for name, at in places.items()}
-                rows.append(_row(number, {name: _cell(name, found.get(name, "")) for name in COLUMNS}))
+                read = {name: _cell(name, found.get(name, "")) for name in DESIGN}
+                rows.append(_row(number, {**read, "kind": _kind(read["kind"], kind)}))
             except TableError as fault:
                 fault.row = number
                 faults.append(fault)
     for name in ("km", "km_to"):
         faults += decimal_commas.faults(sheet, place + 1, width, places, name)
-    faults += [*_clashes(rows), *_unknown_signals(rows)]
     if faults:
         raise TableErrors(faults)
-    if not rows:
-        raise TableError("the plan has no row below its heading")
-    return tuple(rows)
+    return rows
+
+
+def _kind(cell: str, of_sheet: str) -> str:
+    """The kind of a row: that of its cell, or that of its sheet."""
+    if cell and of_sheet and cell.lower() != of_sheet:
+        raise TableError(f"{cell[:40]} is in the sheet {of_sheet}", column="kind")
+    return cell or of_sheet
 
 
 def _cell(name: str, cell: str) -> str:
     """The text of a cell."""
-    text = plain(cell.strip())
+    of_cell, text = kind_and_text(cell)
+    if of_cell in ("date", "truth value"):
+        raise TableError(f"a {of_cell}: the spreadsheet has changed it; make the column text", column=name)
+    text = plain(text.strip())
     if "\n" in text or "\r" in text:
         raise TableError("the cell contains a line end", column=name)
     if is_error(text):
@@ -280,7 +349,8 @@ def _row(number: int, cells: Mapping[str, str]) -> PlanRow:
         raise TableError(NAMED_KINDS[kind], column="name")
     km, km_to = _kilometres(kind, cells)
     value = _read("value", lambda text: _value(kind, text), cells)
-    return PlanRow(number, kind, km, km_to, clean(cells["track"]), way, value, clean(cells["name"]))
+    texts = {name: clean(cells[name]) for name in ("track", "name", "who")}
+    return PlanRow(number, kind, km, km_to, way=way, value=value, **texts)
 
 
 def _kilometres(kind: str, cells: Mapping[str, str]) -> Tuple[Decimal, Optional[Decimal]]:
@@ -339,7 +409,7 @@ def _clashes(rows: Sequence[PlanRow]) -> Iterator[TableError]:
         for way in (row.way,) if row.way and row.kind == "aspect" else (1, -1):
             earlier = first.setdefault((row.kind, row.name, way), row)
             if earlier is not row:
-                why = f"the {row.kind} {row.name} is in row {earlier.number} already"
+                why = f"the {row.kind} {row.name} is in {_earlier(earlier, row)} already"
                 named.setdefault(row.number, TableError(why, row.number, "name"))
     yield from named.values()
 
@@ -358,7 +428,12 @@ def _unknown_signals(rows: Sequence[PlanRow]) -> Iterator[TableError]:
 def _clash(earlier: PlanRow, row: PlanRow) -> TableError:
     """What is wrong with a row that has a border or holds where an earlier row of the file does."""
     if row.kind in BORDERS:
-        return TableError(f"row {earlier.number} has a border at this kilometre already", row.number, "km")
+        return TableError(f"{_earlier(earlier, row)} has a border at this kilometre already", row.number, "km")
     reach = f" to {kilometre(earlier.km_to)}" if earlier.km_to is not None else ""
-    why = f"it overlaps row {earlier.number}, which holds from km {kilometre(earlier.km)}{reach}"
+    why = f"it overlaps {_earlier(earlier, row)}, which holds from km {kilometre(earlier.km)}{reach}"
     return TableError(why, row.number, "km")
+
+
+def _earlier(earlier: PlanRow, row: PlanRow) -> str:
+    """An earlier row, with its sheet if that is another one."""
+    return f"row {earlier.shown}{f' of {earlier.source}' if earlier.source != row.source else ''}"

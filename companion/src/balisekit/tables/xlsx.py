@@ -7,7 +7,7 @@ import math
 import re
 import warnings
 import zipfile
-from contextlib import nullcontext, suppress
+from contextlib import contextmanager, nullcontext, suppress
 from decimal import Decimal
 from functools import partial
 from itertools import islice
@@ -79,11 +79,50 @@ class _Formulas(NamedTuple):
 
 def read(content: bytes, name: Optional[str], headings: Headings = Headings(), fill_merged: bool = False) -> Sheet:
     """The cells of the sheet of this name, else of the one that has the needed headings."""
+    with _opened(content) as book:
+        sheet, note = _chosen(book.workbook, name, headings, fill_merged)
+        found: Dict[str, Found] = {}
+        beside = Beside([], [])
+        if headings.has_telegrams:
+            found = _found_in_others(book.workbook, sheet, book.recalculates)
+            names = [each._worksheet_path for each in book.workbook.worksheets]
+            beside = beside_cells(content, names, book.part_of_strings, _look_at_parts)
+            beside.telegrams.extend([book.part_of_strings] * book.strings.telegrams_of_no_cell())
+        notes = (note, *_notes(beside.telegrams, BESIDE), *_notes(beside.not_searched, NOT_SEARCHED))
+        notes += tuple(_notes(_merged(sheet), FILLED if fill_merged else MERGED if headings.has_telegrams else UNMERGE))
+        others = tuple(title for title in book.titles if title != sheet.title)
+        read_sheet = _sheet(book, sheet)._replace(notes=notes, others=others, is_filled=fill_merged)
+        return read_sheet._replace(in_others=found, is_chosen=name is not None)
+
+
+def read_all(content: bytes) -> List[Sheet]:
+    """The cells of all sheets of a workbook in their order, hidden ones too."""
+    with _opened(content) as book:
+        others = [sheet.title for sheet in book.workbook.chartsheets]
+        made = [_sheet(book, sheet) for sheet in book.workbook.worksheets]
+        return [sheet._replace(others=tuple(others)) for sheet in made]
+
+
+class _Book(NamedTuple):
+    """A workbook that openpyxl has opened."""
+
+    workbook: Any
+    titles: List[str]
+    """Those of all its sheets, sheets of charts at the end."""
+    part_of_strings: str
+    strings: Strings
+    recalculates: bool
+    """Whether a spreadsheet calculates all formulas when it opens the workbook."""
+
+
+@contextmanager
+def _opened(content: bytes) -> Iterator[_Book]:
+    """A workbook, without what openpyxl warns of: it would not write that again."""
     _look_at_parts(content)
     with needed("openpyxl", "reading .xlsx (CSV needs no package)"):
         import openpyxl
     with warnings.catch_warnings():
-        warnings.simplefilter("ignore")  # (openpyxl warns of what it would not write again)
+        warnings.simplefilter("ignore")
         try:
             file = io.BytesIO(content)
             reader = openpyxl.reader.excel.ExcelReader(file, read_only=True, data_only=True, keep_links=False)
@@ -93,30 +132,25 @@ def read(content: bytes, name: Optional[str], headings: Headings = Headings(), f
             book, named = reader.wb, len(reader.parser.sheets)
             _look_at_workbook(reader)
             part_of_strings, shared = _part_of_strings(reader), Strings(reader.shared_strings)
-            formulas = _Formulas(_recalculates(reader.archive.read(reader.parser.workbook_part_name)), [], [])
+            recalculates = _recalculates(reader.archive.read(reader.parser.workbook_part_name))
         except Exception as error:
             raise _unreadable(error) from error
         for each in book.worksheets:
             each._shared_strings = shared
-        all_sheets = [*book.worksheets, *book.chartsheets]
-        if len(all_sheets) < named:
-            raise TableError(f"{named - len(all_sheets)} of its {named} sheets cannot be found in it: {SHORT_WAY_OUT}")
-        _look_at_names("sheet", [each.title for each in all_sheets])
-        sheet, note = _chosen(book, name, headings, fill_merged)
-        merged = _merged(sheet)
-        rows, areas = _cells(_rows(sheet, formulas)), _areas(merged)
-        found: Dict[str, Found] = {}
-        beside = Beside([], [])
-        if headings.has_telegrams:
-            found = _found_in_others(book, sheet, formulas.recalculates)
-            names = [each._worksheet_path for each in book.worksheets]
-            beside = beside_cells(content, names, part_of_strings, _look_at_parts)
-            beside.telegrams.extend([part_of_strings] * shared.telegrams_of_no_cell())
-        notes = (note, *_notes(beside.telegrams, BESIDE), *_notes(beside.not_searched, NOT_SEARCHED))
-        notes += tuple(_notes(merged, FILLED if fill_merged else MERGED if headings.has_telegrams else UNMERGE))
-        others = tuple(other.title for other in all_sheets if other is not sheet)
-        how = areas, fill_merged, found, name is not None
-        return Sheet("xlsx", "", rows, notes, sheet.title, others, *how, *formulas[1:])
+        titles = [each.title for each in (*book.worksheets, *book.chartsheets)]
+        if len(titles) < named:
+            raise TableError(f"{named - len(titles)} of its {named} sheets cannot be found in it: {SHORT_WAY_OUT}")
+        _look_at_names("sheet", titles)
+        yield _Book(book, titles, part_of_strings, shared, recalculates)
+
+
+def _sheet(book: _Book, sheet: Any) -> Sheet:
+    """The cells of one sheet."""
+    formulas = _Formulas(book.recalculates, [], [])
+    areas = _areas(_merged(sheet))
+    rows = _cells(_rows(sheet, formulas))
+    made = Sheet("xlsx", "", rows, (), sheet.title, merged=areas)
+    return made._replace(not_calculated=formulas.not_calculated, recalculated=formulas.recalculated)
 
 
 def _read_chart_sheet(reader: Any, sheet: Any, relation: Any) -> None:

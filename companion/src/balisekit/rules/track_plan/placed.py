@@ -19,7 +19,7 @@ from balisekit.rules.rule import Options, Remark, Result, Urgency
 from balisekit.rules.telegrams import Packet
 from balisekit.tables.chainage import Chainage
 from balisekit.tables.names import clean, kilometre, rows_words
-from balisekit.tables.plan import Plan, PlanRow
+from balisekit.tables.plan import Plan, PlanRow, rows_named
 
 __all__ = ["BEHIND_POINT", "PlacedPlan", "Saying", "cells_of", "plan_words", "remark"]
 COMPARED = ("speed", "gradient", "signal", "aspect", "level", "rbc", "group")
@@ -125,9 +125,14 @@ class PlacedPlan:
         tracks = {clean(data.group.track) for data in self.decoded.groups}
         rows = [row for kind in kinds for row in self.plan.of_kind(kind) if kind != "aspect"]
         ends = [(row, km) for row in rows if row.track in tracks for km in (row.km, row.km_to) if km is not None]
-        lost = [row.number for row, km in ends if self.place(row.track, km) is None]
+        lost = [row for row, km in ends if self.place(row.track, km) is None]
         if lost:
-            yield f"{self.plan.path}: {rows_words(lost)}: not compared: a jump leaves out or repeats the kilometre"
+            yield f"{self.named(lost)}: not compared: a jump leaves out or repeats the kilometre"
+
+    def named(self, rows: Sequence[PlanRow]) -> str:
+        """Rows in a note: after the path of their file if the design has only one sheet."""
+        is_one = len({row.source for row in self.plan.rows}) == 1
+        return f"{self.plan.path}: {rows_words([row.shown for row in rows])}" if is_one else rows_named(rows)
 
     def km(self, passage: Passage, place: int) -> str:
         """The kilometre of a place in words."""
@@ -187,4 +192,4 @@ def cells_of(row: PlanRow) -> str:
 
 def plan_words(row: PlanRow, with_km: bool = True) -> str:
     """A row of the plan in a sentence."""
-    return f"row {row.number} of the plan{f', km {kilometre(row.km)}' if with_km else ''}"
+    return f"{rows_named([row])}{f', km {kilometre(row.km)}' if with_km else ''}"

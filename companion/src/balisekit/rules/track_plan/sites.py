@@ -9,7 +9,7 @@ from balisekit.rules.passages import GroupData
 from balisekit.rules.rule import Options
 from balisekit.rules.track_plan.aspect_sites import Site
 from balisekit.rules.track_plan.placed import PlacedPlan
-from balisekit.tables.names import clean, kilometre, quoted, rows_words
+from balisekit.tables.names import clean, kilometre, quoted
 from balisekit.tables.plan import PlanRow
 
 NEAR = 500
@@ -19,10 +19,10 @@ NEAR = 500
 def elsewhere(placed: PlacedPlan, sites: Mapping[str, Site]) -> Iterator[str]:
     """The rows whose kilometre or track is not that of the group: an aspect is found by its name only."""
     rows = [row for row in placed.plan.of_kind("aspect") if row.name in sites]
-    apart = [row.number for row in rows if not _is_at(sites[row.name].data, row)]
+    apart = [row for row in rows if not _is_at(sites[row.name].data, row)]
     if apart:
         why = "not compared: the kilometre or track of these aspects, which the table does not have for the group"
-        yield f"{placed.plan.path}: {rows_words(apart)}: {why}"
+        yield f"{placed.named(apart)}: {why}"
 
 
 def _is_at(data: GroupData, row: PlanRow) -> bool:

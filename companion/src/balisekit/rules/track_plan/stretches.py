@@ -21,6 +21,7 @@ from balisekit.rules.rule import Options
 from balisekit.rules.telegrams import GRADIENTS, SPEEDS, Stretch, allowance
 from balisekit.rules.touching import longer
 from balisekit.tables.names import rows_words
+from balisekit.tables.plan import PlanRow, rows_named
 
 KINDS = {SPEEDS: "speed", GRADIENTS: "gradient"}
 """The kinds of rows of the plan, by NID_PACKET of the profiles that are compared with them."""
@@ -42,7 +43,7 @@ class Difference(NamedTuple):
     """By how much its places may differ."""
     whole: Optional[Span] = None
     """From where to where it differs together with those that touch it, if there are any."""
-    rows: Tuple[int, ...] = ()
+    rows: Tuple[PlanRow, ...] = ()
     """The rows of the plan that these differ from."""
 
     def fact(self, placed: PlacedPlan) -> str:
@@ -56,9 +57,14 @@ def whole_words(placed: PlacedPlan, difference: Difference) -> str:
     if difference.whole is None or _length(difference) > difference.allowed:
         return ""
     begin, end = (placed.km(difference.saying.passage, place) for place in difference.whole)
-    return (
-        f"; with the stretches that touch it, it differs from {begin} to {end}, by {rows_words(difference.rows)} of it"
-    )
+    return f"; with the stretches that touch it, it differs from {begin} to {end}, by {_rows_words(difference)}"
+
+
+def _rows_words(difference: Difference) -> str:
+    """The rows of a whole stretch, after its longest part has named the sheet of its own row."""
+    rows, own = difference.rows, difference.part.row.source
+    is_own = all(row.source == own for row in rows)
+    return f"{rows_words(row.shown for row in rows)} of it" if is_own else rows_named(rows)
 
 
 @dataclass
@@ -90,7 +96,7 @@ def _with_touching(one: Difference, some: Sequence[Difference]) -> Difference:
     """A stretch with all that touch each other."""
     if len(some) == 1:
         return one
-    return one._replace(whole=(some[0].begin, some[-1].end), rows=tuple(each.part.row.number for each in some))
+    return one._replace(whole=(some[0].begin, some[-1].end), rows=tuple(each.part.row for each in some))
 
 
 def _differing(placed: PlacedPlan, saying: Saying, options: Options, counts: Counts) -> List[Difference]:

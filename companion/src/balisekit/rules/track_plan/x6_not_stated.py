@@ -44,7 +44,7 @@ from balisekit.rules.rule import Options, Remark, Result, Rule, Urgency
 from balisekit.rules.track_plan.placed import NO_PLACE, PlacedPlan, cells_of
 from balisekit.rules.track_plan.stating import ONE_WAY, Stating, ends_of, profiles_of
 from balisekit.tables.names import NAMED, clean, kilometre, listed, rows_words
-from balisekit.tables.plan import PlanRow
+from balisekit.tables.plan import PlanRow, rows_named
 
 KINDS = ("speed", "gradient", "signal")
 WORDS = {"speed": "no packet 27 states the speed", "gradient": "no packet 21 states the gradient"}
@@ -99,7 +99,7 @@ def _remark(placed: PlacedPlan, rows: Sequence[PlanRow]) -> Remark:
     names = listed([clean(row.name) for row in rows if row.name], NAMED)
     where = f"from km {kilometre(first.km)} to km {kilometre(end)}" if end != first.km else f"km {kilometre(first.km)}"
     way = {1: " for rising trains", -1: " for falling trains"}.get(first.way, "")
-    of_rows = f"{rows_words([row.number for row in rows])} of the plan, {where}{way}"
+    of_rows = f"{rows_named(rows)}, {where}{way}"
     sentence = f"{WORDS[first.kind]}{several} of {of_rows}{f' ({names})' if names else ''}"
     place = placed.place(first.track, first.km)
     group = placed.decoded.nearest(first.track, place or 0)

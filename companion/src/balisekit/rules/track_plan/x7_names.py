@@ -37,8 +37,8 @@ from balisekit.rules.location import Location
 from balisekit.rules.passages import GroupData
 from balisekit.rules.rule import Options, Remark, Result, Rule, Urgency
 from balisekit.rules.track_plan.placed import PlacedPlan, cells_of
-from balisekit.tables.names import clean, quoted, rows_words
-from balisekit.tables.plan import PlanRow, aspect_name
+from balisekit.tables.names import clean, quoted
+from balisekit.tables.plan import PlanRow, aspect_name, rows_named
 
 LIKE = 0.6
 """How alike two names must be, by difflib."""
@@ -111,7 +111,7 @@ def meant(name: str, known: Sequence[str]) -> str:
 
 def _remark(rows: Sequence[PlanRow], what: str, like: str, where: Location, name: str) -> Remark:
     """A remark on rows of the plan with one name."""
-    have = f"{rows_words([row.number for row in rows])} of the plan {'has' if len(rows) == 1 else 'have'}"
+    have = f"{rows_named(rows)} {'has' if len(rows) == 1 else 'have'}"
     sentence = f"the table has {what}, which {have}{like}"
     return Remark("X7", where, sentence, texts={"plan_name": name}, facts=[cells_of(row) for row in rows])
 

@@ -46,7 +46,7 @@ from balisekit.rules.telegrams import LINKING, Link, Packet, rounding
 from balisekit.rules.track_plan.sites import differing_places, lacks_kilometres
 from balisekit.rules.track_plan.placed import SAYS_NOTHING, PlacedPlan, cells_of, plan_words
 from balisekit.tables.names import clean, rows_words
-from balisekit.tables.plan import WAY_WORDS
+from balisekit.tables.plan import WAY_WORDS, rows_named
 from balisekit.tables.plan_values import metres
 
 REFUSED = "no telegram is read"
@@ -145,8 +145,8 @@ def _of_link(
     if own.nominal != wanted.is_nominal:
         differ.append(f"Q_LINKORIENTATION is {int(own.nominal)}, and {int(wanted.is_nominal)}")
     if differ:
-        rows = rows_words([sender.row.number, target.row.number])
-        sentence = f"{clean(target.row.name)}: {' by the plan; '.join(differ)} by {rows} of the plan"
+        rows = rows_named([sender.row, target.row])
+        sentence = f"{clean(target.row.name)}: {' by the plan; '.join(differ)} by {rows}"
         facts = [cells_of(sender.row), cells_of(target.row)]
         yield Remark("X8", passage.at(packet, own.number), sentence, values=values, facts=facts)
 
