@@ -7,7 +7,7 @@ import time
 
 import pytest
 
-from browsers import Chromium
+from browsers import Chromium, Firefox
 from runner import TOP
 from targets import MODULE, ROOM, need
 
@@ -19,17 +19,22 @@ SHORT = "a1007f802000ffffffffffffffffffffffffffffffffffffffffc0"
 @functools.lru_cache(None)
 def page():
     """The path of the page, made of the parts as they are here."""
-    need("chromium")
+    need()
     path = pathlib.Path(ROOM.name, "balisecheck.html")
     subprocess.run([TOP / "scripts/page.py", MODULE, path], check=True)
     return path
 
 
-@pytest.fixture(scope="module", name="tab")
-def a_tab():
-    """Chromium with the page."""
+BROWSERS = {"chromium": Chromium, "firefox": Firefox}
+ONLY_CHROMIUM = pytest.mark.parametrize("tab", ["chromium"], indirect=True)
+
+
+@pytest.fixture(scope="module", name="tab", params=["chromium", pytest.param("firefox", marks=pytest.mark.slow)])
+def a_tab(request):
+    """A browser with the page."""
+    need(request.param)
     path = page()
-    with Chromium() as browser:
+    with BROWSERS[request.param]() as browser:
         browser.sized(1400)
         browser.open(path)
         yield browser
