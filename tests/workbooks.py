@@ -51,7 +51,7 @@ def parts(sheets, states=()):
             "xl/workbook.xml": f'{HEAD}<workbook xmlns="{MAIN}" xmlns:r="{KINDS}"><sheets>{listed}</sheets></workbook>',
             "xl/_rels/workbook.xml.rels": f'{HEAD}<Relationships xmlns="{PACKAGE}">{relations}</Relationships>'}
     for at, rows in enumerate(sheets.values(), 1):
-        made[f"xl/worksheets/sheet{at}.xml"] = rows if isinstance(rows, str) else sheet(rows)
+        made[f"xl/worksheets/sheet{at}.xml"] = rows if isinstance(rows, (str, bytes)) else sheet(rows)
     return made
 
 

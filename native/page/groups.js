@@ -19,8 +19,9 @@ function listsBy(entries, key) {
 
 // The rows of each aspect, with those of every aspect: of those that rows name, or of one without a name.
 function aspectsOfRows(entries) {
-    const names = [...listsBy(entries.filter((it) => !isEvery(it)), (it) => it.aspect).keys()];
-    return (names.length ? names : [""]).map((name) => entries.filter((it) => it.aspect === name || isEvery(it)));
+    const every = entries.filter(isEvery), lists = [...listsBy(entries.filter((it) => !isEvery(it)), (it) => it.aspect).values()];
+    if (!lists.length) return [every];
+    return lists.map((own) => (every.length ? [...own, ...every].sort((one, other) => one.index - other.index) : own));
 }
 
 // The balises of an aspect by their numbers, if they have numbers, else by their rows.

@@ -6,6 +6,14 @@ import { DocumentView, whereText } from "./document.js";
 
 const REFUSALS = 50; // refusals at a time
 const CELL = 28; // characters of a cell beside a finding
+// What to do about a table that is refused as a whole.
+const HINTS = {
+    "not UTF-8": "The file has another encoding, such as UTF-16 or Windows-1252. Save the table again as CSV UTF-8.",
+    "no heading row": "None of the first 20 rows has the two headings that a table needs, each in a cell of its own. State the " +
+        "headings of your table above, or rename them.",
+    "two delimiters give a heading row": "A table has one row of headings, and one delimiter: comma, semicolon or tab.",
+    "no telegram": "No row below the headings has a telegram.",
+};
 const READER = "the JavaScript of this page, which is not proved";
 
 // A row of the table beside a finding.
@@ -15,10 +23,11 @@ function rowView({ where, cells }) {
 }
 
 // A refusal: the cells of its row, and what is wrong with its telegram.
-function refusalView(data, { label, where, cells, record }) {
+function refusalView(data, { label, where, reason, cells, record }) {
     return folded(make("span", { class: "found" }, label), () => {
         const shown = cells.length ? [table(`Cells of ${where}`, ["column", "text"], cells)] : [];
-        return record?.fault ? [...shown, ...refusedView(data, record)] : [...shown, paragraph("The table is refused for this row.")];
+        if (record?.fault) return [...shown, ...refusedView(data, record)];
+        return [...shown, paragraph(HINTS[reason] ?? "The whole table is refused for this row. Correct it, and check the table again.")];
     }, "faulty");
 }
 
@@ -27,7 +36,8 @@ class TableView extends DocumentView {
         const located = await this.ask("located", { from, count, hasCells: true });
         const rows = this.findings.slice(from, from + count).map((finding, index) => {
             const show = () => this.show("group", finding.group).then(() => this.title.focus());
-            return [finding.rule, finding.name, located[index].rows.map(rowView),
+            const { rows: shown, more } = located[index], rest = more ? [make("div", {}, `and ${counted(more, "more row")}`)] : [];
+            return [finding.rule, finding.name, [...shown.map(rowView), ...rest],
                 whereText({ ...finding, group: undefined }), button(`Show group ${finding.group}`, show)];
         });
         const caption = `Findings ${from + 1} to ${from + rows.length} of ${this.findings.length}`;

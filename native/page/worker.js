@@ -66,7 +66,8 @@ const doing = {
     located({ from, count, hasCells }) {
         const { listed, rows } = read.its, place = hasCells ? placed : ({ sheet, row }) => ({ sheet, row });
         return listed.slice(from, from + count).map((finding, index) => {
-            return { name: read.groups[finding.group].name, rows: rows[from + index].map(place) };
+            const its = rows[from + index], shown = hasCells ? its.slice(0, FEW) : its;
+            return { name: read.groups[finding.group].name, rows: shown.map(place), more: its.length - shown.length };
         });
     },
 
