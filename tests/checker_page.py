@@ -29,7 +29,7 @@ BROWSERS = {"chromium": Chromium, "firefox": Firefox}
 ONLY_CHROMIUM = pytest.mark.parametrize("tab", ["chromium"], indirect=True)
 
 
-@pytest.fixture(scope="module", name="tab", params=["chromium", pytest.param("firefox", marks=pytest.mark.slow)])
+@pytest.fixture(scope="module", name="tab", params=["chromium", pytest.param("firefox", marks=pytest.mark.long)])
 def a_tab(request):
     """A browser with the page."""
     need(request.param)
@@ -62,7 +62,7 @@ def paste(tab, text, kind=""):
 
 def choose(tab, path, seconds=60):
     """Opens a file, and returns what the page says."""
-    tab.run("document.querySelector('#clear').click()")
+    tab.run("document.querySelector('#clear').click(), document.querySelector('[name=kind]').click()")
     tab.choose(path)
     return answered(tab, seconds)
 

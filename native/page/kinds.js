@@ -36,6 +36,7 @@ function isRow(line) {
 // "document", "table", "workbook", "lines" or a key of NOT_READ, for the bytes of a file with this name, or of a pasted text.
 export function kindOf(name, bytes) {
     const head = bytes.subarray(0, HEAD);
+    if (!bytes.length) return "empty";
     const other = otherKind(name, head);
     if (other) return other;
     const text = new TextDecoder().decode(head).trim();

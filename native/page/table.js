@@ -6,6 +6,7 @@ import { FEWEST_DIGITS, looksLikeTelegram } from "./looks.js";
 const SEARCHED = 20; // rows in which a delimiter has to give the headings
 const MOST_ROWS = 1000000;
 const ROWS_STEP = 5000; // rows between two reports of progress
+const NO_DIGITS = "the telegram is not hexadecimal";
 const COLUMNS = ["group", "telegram", "aspect", "balise"];
 const KINDS = { number: "a number, whose digits can be lost", error: "an error value", formula: "a formula without a value",
     truth: "a truth value" }; // of cells of a workbook that are no text
@@ -49,8 +50,8 @@ class SheetReader {
         this.columns = undefined; // where they are, as soon as the headings were found
     }
 
-    fault(row, reason) {
-        this.faults.push({ ...this.place(row), reason });
+    fault(row, reason, digits) {
+        this.faults.push({ ...this.place(row), reason, digits });
     }
 
     place({ number, at }) {
@@ -96,7 +97,7 @@ class SheetReader {
         const isWide = row.fields.slice(this.columns.width).some(Boolean);
         const checks = [[!group, "no group"], [!telegram, "no telegram"], [isWide, "text to the right of the headings"],
             [EDGE.test(group), "a blank at an end of the group"], [EDGE.test(aspect), "a blank at an end of the aspect"],
-            [!HEXADECIMAL.test(digitsOf(telegram)), "the telegram is not hexadecimal"],
+            [!HEXADECIMAL.test(digitsOf(telegram)), NO_DIGITS],
             [!NUMBER.test(balise), "the balise is not a number of up to four digits"]];
         return [...this.cellReasons(row), ...checks.filter(([isWrong]) => isWrong).map(([, reason]) => reason)];
     }
@@ -108,7 +109,7 @@ class SheetReader {
         const [reason] = this.reasonsOf(row, texts);
         this.lookAt(row);
         if (telegram) this.telegrams++;
-        if (reason) this.fault(row, reason);
+        if (reason) this.fault(row, reason, reason === NO_DIGITS ? digitsOf(telegram) : undefined);
         const number = balise === "" ? undefined : Number(balise);
         this.entries.push({ ...this.place(row), column: this.columns.telegram, group, aspect, number, digits: digitsOf(telegram) });
     }

@@ -162,6 +162,7 @@ export async function workbookOf(bytes, tell) {
     tell({ step: "unpacking the workbook" });
     const parts = new Package(bytes);
     if (!parts.has("[content_types].xml")) throw wrong("it is no .xlsx, but an .ods or another zip");
+    await parts.xml("[content_types].xml");
     if (parts.has("xl/workbook.bin")) throw wrong("it is an .xlsb: save it as .xlsx");
     const start = [...(await parts.relations("")).values()].find((it) => it.kind === "officeDocument")?.path ?? "";
     if (!/^xl\/.*\.xml$/.test(start)) throw wrong("it is no .xlsx, but a text or another document");
