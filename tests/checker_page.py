@@ -95,3 +95,8 @@ def texts(tab, selector):
     while not tab.run(OPENED) and time.monotonic() < until:
         time.sleep(0.02)
     return tab.run(f"[...document.querySelectorAll({json.dumps(selector)})].map((it) => it.textContent)")
+
+
+# How many elements a page has that only the markup of an input could have made.
+RUN_BY_A_FILE = """["#status", "#result"].flatMap((place) => ["img", "svg", "script", "b", "iframe", "style", "base", "meta"].map(
+    (name) => document.querySelectorAll(`${place} ${name}`).length)).reduce((sum, one) => sum + one, 0)"""

@@ -1,13 +1,16 @@
 """Files that try to break the page for browsers: broken, huge, in strange encodings, or with markup. Each has the name of
 its file, what makes its bytes, and how the page's sentence on it begins, as a regular expression."""
 import collections
+import io
 import struct
+import warnings
 import zipfile
 
 from checker_page import SHORT
-from workbooks import HEAD, KINDS, MAIN, PACKAGE, Raw, letters, packed, parts, sheet, workbook
+from workbooks import HEAD, KINDS, MAIN, Raw, letters, packed, parts, sheet, workbook
 
-Hostile = collections.namedtuple("Hostile", "file make said")
+Hostile = collections.namedtuple("Hostile", "file content said")
+LARGE = "50 MB "  # (how the names of large files begin)
 TABLE = f"group,telegram\nA,{SHORT}\n"
 ROWS = [["group", "telegram"], ["A", SHORT]]
 YES, NOT_ROW = r"yes: groups 1, telegrams 1$", r"refused: row 2: the telegram is not hexadecimal$"
@@ -71,7 +74,7 @@ def formed_files():
         "odd quotes": (f'{TABLE}{chr(34) * 9999},{SHORT}\n', "refused: row 3: a quote that is not closed"),
         "even quotes": (f'{TABLE}{chr(34) * 9998},{SHORT}\n', "no: findings 1$"),
         "only quotes": ('"' * 10000, "refused: no heading row"),
-        "long name": (f"group,telegram\n{'A' * 1000000},{SHORT}\n", YES),
+        "long name": (f"group,telegram\n{'N' * 1000000},{SHORT}\n", YES),
         "long telegram": (f"group,telegram\nA,{'a' * 1000000}\n", "refused: row 2: wrong size$"),
         "long heading": (f"group,telegram,{'x' * 1000000}\nA,{SHORT},{'y' * 1000000}\n", YES),
         "one line": ("x" * 5000000, "refused: no heading row"),
@@ -133,15 +136,11 @@ def bomb(size, told=None):
 
 def twice(name):
     """A workbook with one part twice."""
-    import warnings
-    with warnings.catch_warnings():
+    out = io.BytesIO(packed(parts({"Line": ROWS})))
+    with warnings.catch_warnings(), zipfile.ZipFile(out, "a") as made:
         warnings.simplefilter("ignore")
-        whole = packed(parts({"Line": ROWS}))
-        import io
-        out = io.BytesIO(whole)
-        with zipfile.ZipFile(out, "a") as made:
-            made.writestr(name, sheet(ROWS))
-        return out.getvalue()
+        made.writestr(name, sheet(ROWS))
+    return out.getvalue()
 
 
 def zips():
@@ -243,9 +242,9 @@ def xmls():
     for name, xml, said in (
         ("deep", data_of("<row>" + "<a>" * 100000 + "</a>" * 100000 + "</row>"), UNREADABLE + "|refused: no heading row"),
         ("many attributes", data_of("<row " + " ".join(f'a{it}="1"' for it in range(100000)) + "/>"), UNREADABLE + "|refused: no heading row"),
-        ("script", good.replace("</worksheet>", '<script xmlns="http://www.w3.org/1999/xhtml">alert(1)</script></worksheet>'), YES),
+        ("script", good.replace("</worksheet>", '<script xmlns="http://www.w3.org/1999/xhtml">alert(1)</script></worksheet>'), UNREADABLE),
         ("style sheet", good.replace("<worksheet", '<?xml-stylesheet href="http://127.0.0.1:9/" type="text/xsl"?><worksheet'), YES),
-        ("picture", good.replace("</worksheet>", '<img xmlns="http://www.w3.org/1999/xhtml" src="x" onerror="alert(1)"/></worksheet>'), YES),
+        ("picture", good.replace("</worksheet>", '<img xmlns="http://www.w3.org/1999/xhtml" src="x" onerror="alert(1)"/></worksheet>'), UNREADABLE),
         ("prefix", good.replace("<", "<x:").replace("<x:/", "</x:").replace("<x:?", "<?").replace("xmlns=", "xmlns:x="), YES),
         ("comment in a cell", good.replace(">A<", "><!-- x -->A<"), YES), ("section", good.replace(">A<", "><![CDATA[A]]><"), YES),
         ("no places", good.replace(' r="B2"', "").replace(' r="A2"', "").replace(' r="2"', ""), YES),
@@ -306,10 +305,10 @@ def large():
         ("commas", lambda: TABLE + "," * 50_000_000, "Not checked: a row has more than 16384 fields"),
         ("quotes", lambda: TABLE + '"' * 50_000_001, "refused: row 3: a quote that is not closed"),
         ("line ends", lambda: TABLE + "\n" * 50_000_000, YES), ("zeros", lambda: "\0" * 50_000_000, "This file has NUL bytes"),
-        ("name", lambda: f"group,telegram\n{'A' * 50_000_000},{SHORT}\n", YES),
+        ("name", lambda: f"group,telegram\n{'N' * 50_000_000},{SHORT}\n", YES),
         ("open quote", lambda: f'{TABLE}"' + row * (50_000_000 // len(row)), "refused: row 3: a quote that is not closed"),
     ):
-        yield f"50 MB {name}", "a.csv", make, said
+        yield f"{LARGE}{name}", "a.csv", make, said
 
 
 def hostile():
@@ -326,6 +325,3 @@ def bytes_of(content):
     """The bytes of a file, which may be made only now."""
     content = content() if callable(content) else content
     return content.encode() if isinstance(content, str) else content
-
-
-assert PACKAGE

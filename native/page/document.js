@@ -6,6 +6,7 @@ import { recordView } from "./records.js";
 const ROWS = 100; // findings at a time
 const TELEGRAMS = 50; // at a time
 const LONGEST_ANSWER = 200000; // characters of the program's answer that are shown
+const LONGEST_NAME = 100; // characters of the name of a group
 const PARTS = ["What it says", "Why it matters", "Usual cause", "How to correct it"];
 
 // Where a finding or a refusal is.
@@ -87,7 +88,7 @@ export class DocumentView {
         });
         const view = ({ record, ...where }) => {
             const place = whereText(aspects.length > 1 ? where : { ...where, aspect: undefined });
-            const label = record.where ? `${record.where}, ${record.name}, ${place}` : place;
+            const label = record.where ? `${record.where}, ${shortened(record.name, LONGEST_NAME)}, ${place}` : place;
             return recordView(this.data, label, record, ...this.foundOf({ ...where, message: undefined }));
         };
         return [...whole, stepwise(all.length, TELEGRAMS, (from, count) => all.slice(from, from + count).map(view))];

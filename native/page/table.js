@@ -6,6 +6,7 @@ import { FEWEST_DIGITS, looksLikeTelegram } from "./looks.js";
 const SEARCHED = 20; // rows in which a delimiter has to give the headings
 const MOST_ROWS = 1000000;
 const ROWS_STEP = 5000; // rows between two reports of progress
+const LONGEST_NAME = 100; // characters of the name of a sheet
 const NO_DIGITS = "the telegram is not hexadecimal";
 const COLUMNS = ["group", "telegram", "aspect", "balise"];
 const KINDS = { number: "a number, whose digits can be lost", error: "an error value", formula: "a formula without a value",
@@ -188,7 +189,7 @@ export function readSheets(book, words) {
 
 // Where something of a table is, such as "row 7" or "sheet Line row 7".
 export function placeText({ sheet, row }) {
-    return [...(sheet === undefined ? [] : [`sheet ${sheet}`]), ...(row === undefined ? [] : [`row ${row}`])].join(" ");
+    return [...(sheet === undefined ? [] : [`sheet ${sheet.slice(0, LONGEST_NAME)}`]), ...(row === undefined ? [] : [`row ${row}`])].join(" ");
 }
 
 // A fault of a table in words.

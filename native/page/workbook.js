@@ -4,6 +4,7 @@ import { looksLikeTelegram } from "./looks.js";
 
 const MOST_COLUMNS = 16384, MOST_ROWS = 1048576; // of a sheet, as a spreadsheet has
 const TYPES = "http://schemas.openxmlformats.org/officeDocument/2006/relationships";
+const PAGE = "http://www.w3.org/1999/xhtml";
 const KINDS = { n: "number", b: "truth", e: "error" }; // of cells that are no text
 const OTHER = /^xl\/.*\.(xml|vml)$/, SKIPPED = /^xl\/(styles|theme\/.*|workbook|sharedstrings|calcchain|metadata)\.xml$|_rels/;
 const UNSEARCHED = /\.bin$|^xl\/embeddings\//;
@@ -48,6 +49,7 @@ class Package {
     async xml(name) {
         const text = await this.text(name);
         if (/<!(?:DOCTYPE|ENTITY)/i.test(text)) throw wrong(`the part ${name.slice(0, 100)} has a document type`);
+        if (text.includes(PAGE)) throw wrong(`the part ${name.slice(0, 100)} has elements of a page`);
         if (/^<\?xml[^>]*encoding\s*=\s*["'](?!utf-?8["'])/i.test(text)) throw wrong(`the part ${name.slice(0, 100)} is not in UTF-8`);
         const form = new DOMParser().parseFromString(text, "application/xml");
         if (all(form, "parsererror").length) throw wrong(`the part ${name.slice(0, 100)} is no XML`);
