@@ -14,6 +14,7 @@ LARGE = "50 MB "  # (how the names of large files begin)
 TABLE = f"group,telegram\nA,{SHORT}\n"
 ROWS = [["group", "telegram"], ["A", SHORT]]
 YES, NOT_ROW = r"yes: groups 1, telegrams 1$", r"refused: row 2: the telegram is not hexadecimal$"
+NUL = "This file has NUL bytes, so it is no text in UTF-8"
 DAMAGED, UNREADABLE = "Not checked: the workbook is damaged or cut short: ", "Not checked: the workbook cannot be read: "
 MARKUP = {
     "image": "<img src=x onerror=alert(1)>", "script": "<script>alert(1)</script>", "svg": '"><svg onload=alert(1)>',
@@ -43,14 +44,14 @@ def text_files():
         quoted = f'"{name}"'
         yield f"name {name!r}", "a.csv", f"group,{quoted},telegram\n{quoted},{quoted},{SHORT}\n", YES
     for name, digits in DIGITS.items():
-        yield f"digits {name}", "a.csv", f"group,telegram\nA,{digits}\n", NOT_ROW
+        yield f"digits {name}", "a.csv", f"group,telegram\nA,{digits}\n", NUL if name == "NUL" else NOT_ROW
 
 
 def encoded_files():
     """Texts in other encodings, or in none."""
     german = f"group,telegram\nStra\u00dfe,{SHORT}\n"
     for name in "utf-16", "utf-32", "utf-16-le", "utf-16-be":
-        said = "This file is in UTF-16" if name in ("utf-16", "utf-32") else "refused: not UTF-8"
+        said = "This file is in UTF-16" if name in ("utf-16", "utf-32") else NUL
         yield name, "a.csv", german.encode(name), said
     for name, text in {"latin-1": german.encode("latin-1"), "cp1252": german.replace("ß", "\u20ac").encode("cp1252"),
                        "overlong": TABLE.encode() + b"\xc0\xaf", "surrogate": TABLE.encode() + b"\xed\xa0\x80",
@@ -186,8 +187,8 @@ def zips():
     yield "binary workbook by content", "a.xlsx", packed({"[Content_Types].xml": "<a/>", "xl/workbook.bin": b"\0"}), UNREADABLE
     yield "text of a word processor", "a.docx", packed({"[Content_Types].xml": "<a/>", "word/document.xml": "<a/>"}), UNREADABLE
     yield "PDF", "a.pdf", b"%PDF-1.7\n", "This is a PDF"
-    yield "picture", "a.png", b"\x89PNG\r\n\x1a\n\0\0\0\rIHDR", "This file has NUL bytes"
-    yield "program", "a.csv", b"\x7fELF\2\1\1\0" + b"\0" * 100, "refused: no heading row"
+    yield "picture", "a.png", b"\x89PNG\r\n\x1a\n\0\0\0\rIHDR", NUL
+    yield "program", "a.csv", b"\x7fELF\2\1\1\0" + b"\0" * 100, NUL
 
 
 def with_sheet(xml):
@@ -304,7 +305,7 @@ def large():
         ("line", lambda: "group,telegram\nA," + "a" * 50_000_000, "refused: row 2: wrong size"),
         ("commas", lambda: TABLE + "," * 50_000_000, "Not checked: a row has more than 16384 fields"),
         ("quotes", lambda: TABLE + '"' * 50_000_001, "refused: row 3: a quote that is not closed"),
-        ("line ends", lambda: TABLE + "\n" * 50_000_000, YES), ("zeros", lambda: "\0" * 50_000_000, "This file has NUL bytes"),
+        ("line ends", lambda: TABLE + "\n" * 50_000_000, YES), ("zeros", lambda: "\0" * 50_000_000, NUL),
         ("name", lambda: f"group,telegram\n{'N' * 50_000_000},{SHORT}\n", YES),
         ("open quote", lambda: f'{TABLE}"' + row * (50_000_000 // len(row)), "refused: row 3: a quote that is not closed"),
     ):

@@ -7,8 +7,8 @@ export const NOT_READ = {
     pdf: "This is a PDF. Open a file that the tool of the telegrams has exported: a JSON document, or a text file with " +
         "a telegram on each line.",
     utf16: "This file is in UTF-16. Balisecheck reads UTF-8: save the file again in UTF-8, a table as CSV UTF-8.",
-    binary: "This file has NUL bytes, so it is no text. Open a JSON document, or a text file with a telegram on each " +
-        "line.",
+    binary: "This file has NUL bytes, so it is no text in UTF-8. Open a table that was saved as CSV UTF-8, a JSON " +
+        "document, or a text file with a telegram on each line.",
     empty: "There is nothing to check: the input is empty.",
 };
 
@@ -24,7 +24,8 @@ const FIRST = 20; // lines of a text that are looked at
 function otherKind(name, head) {
     const start = STARTS.find(([, bytes]) => bytes.every((byte, index) => head[index] === byte));
     const ending = ENDINGS.find(([, form]) => form.test(name));
-    const found = (start ?? ending)?.[0] ?? (head.includes(0) ? "binary" : undefined);
+    const found = (start ?? ending)?.[0], isText = !found || found === "table";
+    if (isText && head.includes(0)) return "binary";
     return found === "workbook" && ending?.[0] === "ods" ? "ods" : found;
 }
 
