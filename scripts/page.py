@@ -15,12 +15,13 @@ from pathlib import Path
 from variables.table import TOP, Part, layouts_of, read_rows
 
 PARTS = TOP / "native/page"
-WORKER = "lines.js", "worker.js"
-SCRIPTS = "kinds.js", "words.js", "bits.js", "exports.js", "view.js", "records.js", "document.js", "lists.js", "main.js"
+WORKER = "lines.js", "looks.js", "rows.js", "table.js", "groups.js", "cells.js", "tables.js", "worker.js"
+SCRIPTS = ("kinds.js", "words.js", "bits.js", "exports.js", "view.js", "records.js", "document.js", "lists.js",
+           "tableview.js", "looks.js", "zip.js", "workbook.js", "main.js")
 FINDING = "name", "says", "matters", "cause", "remedy"
 IMPORT = re.compile(r'(?m)^import .* from "\./[\w.]+";\n')
-EXPORT = re.compile(r"(?m)^export (?=(?:const|(?:async )?function|class) )")
-DEFINED = re.compile(r"(?m)^(?:async )?(?:const|let|function|class) (\w+)")
+EXPORT = re.compile(r"(?m)^export (?=(?:const|(?:async )?function\*?|class) )")
+DEFINED = re.compile(r"(?m)^(?:async )?(?:const|let|function\*?|class) (\w+)")
 LARGEST = 1_200_000  # bytes
 # On a page that was opened from a disk Chromium starts no worker that is a module. The page waits for `ready`.
 WORKER_FORM = """"use strict";

@@ -38,6 +38,7 @@ class Chromium:
         os.close(theirs)
         os.close(back)
         self.number, self.rest, self.events, self.session = 0, b"", [], None
+        self.ask("Browser.setDownloadBehavior", behavior="deny")
         targets = self.ask("Target.getTargets")["targetInfos"]
         target = next(it["targetId"] for it in targets if it["type"] == "page")
         self.session = self.ask("Target.attachToTarget", targetId=target, flatten=True)["sessionId"]
@@ -136,23 +137,49 @@ class Chromium:
         return [it["params"] for it in self.events if it["method"] in names]
 
 
+# What Firefox is told: that it says by itself where it listens, keeps downloads in its own folder, and logs to its console.
+SETTINGS = """user_pref("marionette.port", 0);
+user_pref("browser.download.folderList", 2);
+user_pref("browser.download.dir", {folder});
+user_pref("browser.startup.page", 0);
+"""
+# In the browser's own window: notes what is asked for, and forgets what was noted before.
+NOTES = """
+window.balisecheckAsked ??= (() => {
+    const asked = [];
+    Services.obs.addObserver((it) => asked.push(it.QueryInterface(Ci.nsIChannel).URI.spec), "http-on-modify-request");
+    return asked;
+})();
+window.balisecheckAsked.length = 0;
+Services.console.reset();
+"""
+# The errors of the page and of its workers.
+ERRORS = """return Services.console.getMessageArray().filter((it) => it instanceof Ci.nsIScriptError)
+    .filter((it) => /^(file|blob):/.test(it.sourceName) && !(it.flags & it.warningFlag)).map((it) => it.message);"""
+SCHEME = """Services.prefs.setIntPref("layout.css.prefers-color-scheme.content-override", arguments[0] ? 0 : 1);"""
+KEYS = {"Tab": "\ue004", "Enter": "\ue007"}
+
+
 class Firefox:
-    """A tab of Firefox."""
+    """A tab of Firefox, and what it has reported: requests by http, and errors of the console."""
 
     def __init__(self):
         self.folder = tempfile.TemporaryDirectory(prefix="firefox-", ignore_cleanup_errors=True)
-        command = ["firefox-esr", "--headless", "--no-remote", "--marionette", "--profile", self.folder.name]
-        pathlib.Path(self.folder.name, "user.js").write_text('user_pref("marionette.port", 0);\n', "utf-8")
+        command = ["firefox-esr", "--headless", "--no-remote", "--marionette", "--remote-allow-system-access", "--profile",
+                   self.folder.name]
+        text = SETTINGS.format(folder=json.dumps(self.folder.name))
+        pathlib.Path(self.folder.name, "user.js").write_text(text, "utf-8")
         self.process = subprocess.Popen(command, **QUIET)
         port = pathlib.Path(self.folder.name, "MarionetteActivePort")
         until = time.monotonic() + SECONDS
         while not (port.exists() and port.read_text().strip()):
             assert time.monotonic() < until, "Firefox does not start"
             time.sleep(0.1)
-        self.socket = socket.create_connection(("127.0.0.1", int(port.read_text())), SECONDS)
+        self.socket = socket.create_connection(("127.0.0.1", int(port.read_text())), 2 * SECONDS)
         self.rest, self.number = b"", 0
         self.heard()
         self.ask("WebDriver:NewSession", capabilities={"alwaysMatch": {"acceptInsecureCerts": False}})
+        self.ask("WebDriver:SetTimeouts", script=1000 * SECONDS, pageLoad=1000 * SECONDS)
 
     def __enter__(self):
         return self
@@ -181,13 +208,22 @@ class Firefox:
         assert error is None, (name, error)
         return value
 
+    def own(self, script, *words):
+        """What a script returns in the window of the browser itself."""
+        self.ask("Marionette:SetContext", value="chrome")
+        try:
+            return self.ask("WebDriver:ExecuteScript", script=script, args=words, sandbox=None)["value"]
+        finally:
+            self.ask("Marionette:SetContext", value="content")
+
     def open(self, path):
-        """Opens a file."""
+        """Opens a file in a new document."""
+        self.own(NOTES)
         self.ask("WebDriver:Navigate", url=pathlib.Path(path).resolve().as_uri())
 
     def run(self, script):
-        """The value of an expression."""
-        return self.ask("WebDriver:ExecuteScript", script=f"return ({script});", args=[], sandbox="default")["value"]
+        """The value of an expression of the page, for whose promise is waited."""
+        return self.ask("WebDriver:ExecuteScript", script=f"return ({script});", args=[], sandbox=None)["value"]
 
     until = Chromium.until
 
@@ -196,12 +232,27 @@ class Firefox:
         found = self.ask("WebDriver:FindElement", using="css selector", value=selector)["value"]
         self.ask("WebDriver:ElementSendKeys", id=next(iter(found.values())), text=str(path))
 
+    def press(self, key, **_):
+        """Presses a key."""
+        keys = [{"type": kind, "value": KEYS[key]} for kind in ("keyDown", "keyUp")]
+        self.ask("WebDriver:PerformActions", actions=[{"type": "key", "id": "keys", "actions": keys}])
+
     def sized(self, width, height=1000, dark=False):
-        """Has a window of this size."""
-        assert not dark
-        self.ask("WebDriver:SetWindowRect", width=width, height=height)
+        """Has a page of this size, light or dark. No window is narrower than 500 pixels."""
+        self.own(SCHEME, dark)
+        edge = self.run("outerWidth - innerWidth")
+        self.ask("WebDriver:SetWindowRect", width=width + edge, height=height)
+        self.until(f"Math.abs(innerWidth - {max(width, 500)}) < 2", 5)
 
     def picture(self, path):
         """Writes a picture of the whole page."""
         found = self.ask("WebDriver:TakeScreenshot", full=True)["value"]
         pathlib.Path(path).write_bytes(base64.b64decode(found))
+
+    def requests(self):
+        """The addresses that were asked for by http since the page was opened. Those of the browser itself are not counted."""
+        return [it for it in self.own("return window.balisecheckAsked;") if "mozilla" not in it]
+
+    def messages(self):
+        """The errors of the page since it was opened."""
+        return self.own(ERRORS)

@@ -7,7 +7,7 @@ import time
 
 import pytest
 
-from browsers import Chromium
+from browsers import Chromium, Firefox
 from runner import TOP
 from targets import MODULE, ROOM, need
 
@@ -19,17 +19,22 @@ SHORT = "a1007f802000ffffffffffffffffffffffffffffffffffffffffc0"
 @functools.lru_cache(None)
 def page():
     """The path of the page, made of the parts as they are here."""
-    need("chromium")
+    need()
     path = pathlib.Path(ROOM.name, "balisecheck.html")
     subprocess.run([TOP / "scripts/page.py", MODULE, path], check=True)
     return path
 
 
-@pytest.fixture(scope="module", name="tab")
-def a_tab():
-    """Chromium with the page."""
+BROWSERS = {"chromium": Chromium, "firefox": Firefox}
+ONLY_CHROMIUM = pytest.mark.parametrize("tab", ["chromium"], indirect=True)
+
+
+@pytest.fixture(scope="module", name="tab", params=["chromium", pytest.param("firefox", marks=pytest.mark.long)])
+def a_tab(request):
+    """A browser with the page."""
+    need(request.param)
     path = page()
-    with Chromium() as browser:
+    with BROWSERS[request.param]() as browser:
         browser.sized(1400)
         browser.open(path)
         yield browser
@@ -57,7 +62,7 @@ def paste(tab, text, kind=""):
 
 def choose(tab, path, seconds=60):
     """Opens a file, and returns what the page says."""
-    tab.run("document.querySelector('#clear').click()")
+    tab.run("document.querySelector('#clear').click(), document.querySelector('[name=kind]').click()")
     tab.choose(path)
     return answered(tab, seconds)
 
@@ -90,3 +95,8 @@ def texts(tab, selector):
     while not tab.run(OPENED) and time.monotonic() < until:
         time.sleep(0.02)
     return tab.run(f"[...document.querySelectorAll({json.dumps(selector)})].map((it) => it.textContent)")
+
+
+# How many elements a page has that only the markup of an input could have made.
+RUN_BY_A_FILE = """["#status", "#result"].flatMap((place) => ["img", "svg", "script", "b", "iframe", "style", "base", "meta"].map(
+    (name) => document.querySelectorAll(`${place} ${name}`).length)).reduce((sum, one) => sum + one, 0)"""

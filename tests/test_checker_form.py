@@ -9,9 +9,12 @@ from checker_page import a_tab, an_opened_tab  # noqa: F401 pylint: disable=unus
 from page_form import FOCUSED, FORM, ORDER
 from runner import TOP
 
+TABLE = "group,km,telegram\n"
 STATES = {"start": "", "findings": (TOP / "examples/check/many-findings.json").read_text(),
           "yes": (TOP / "examples/check/sound-line.json").read_text(), "empty": '{"groups":[],"messages":[]}',
-          "lines": f"{SHORT}\nzz\n{SHORT[:3]}1{SHORT[4:]}\n", "refused": "{", "table": "a;b\n"}
+          "lines": f"{SHORT}\nzz\n{SHORT[:3]}1{SHORT[4:]}\n", "refused": "{",
+          "table": f"{TABLE}A,1.5,{SHORT}\nB,2,{SHORT}\n", "other telegrams": f"{TABLE}A,{SHORT},{SHORT}\n",
+          "refused rows": f"{TABLE}A,1.5,{SHORT}\nB,2,00\nC,3,{SHORT[:3]}1{SHORT[4:]}\n", "no table": "a;b\n"}
 
 
 @pytest.mark.parametrize("dark", [False, True], ids=["light", "dark"])

@@ -9,7 +9,7 @@ import time
 import pytest
 
 from browsers import Chromium, Firefox
-from checker_page import DOCUMENTS, SHORT, STATUS, answered, choose, page, paste, saved, texts
+from checker_page import DOCUMENTS, ONLY_CHROMIUM, SHORT, STATUS, answered, choose, page, paste, saved, texts
 from checker_page import a_tab, an_opened_tab  # noqa: F401 pylint: disable=unused-import # (fixtures)
 from runner import TOP, run
 from targets import MODULE, Call, answers, need
@@ -63,6 +63,7 @@ def test_a_request_would_be_seen(tmp_path):
         assert own.requests() == ["http://127.0.0.1:9/"]
 
 
+@ONLY_CHROMIUM
 def test_answers_soon(tab):
     """From the opening of the file to an answer it takes at most half a second: once in 20 runs, beside other tests."""
     taken = [SECONDS + 1]
@@ -357,24 +358,23 @@ def test_changed_documents(tab):
 
 
 FILES = {
-    "line.csv": (b"group,telegram\nA,a1\n", "This is a table."),
-    "line": (b"group;telegram\nA;a1\n", "This is a table."),
-    "line.xlsx": (b"PK\x03\x04\0\0", "This is a workbook."), "old.xls": (b"\xd0\xcf\x11\xe0", "This is a workbook."),
-    "broken.xlsx": (b"broken", "This is a workbook."), "page.pdf": (b"%PDF-1.7", "This is a PDF."),
+    "line.csv": (b"group,telegram\nA,a1\n", "refused: row 2: wrong size"),
+    "line": (b"group;telegram\nA;a1\n", "refused: row 2: wrong size"),
+    "line.xlsx": (b"PK\x03\x04\0\0", "Not checked: the workbook is damaged or cut short"),
+    "old.xls": (b"\xd0\xcf\x11\xe0", "This is an old workbook"), "other.ods": (b"PK\x03\x04", "This is a workbook of another"),
+    "broken.xlsx": (b"broken", "Not checked: the workbook is damaged"), "page.pdf": (b"%PDF-1.7", "This is a PDF."),
     "utf16.txt": (b"\xff\xfea\x001\0", "This file is in UTF-16."),
-    "binary.json": (b'{"a\0b"', "This file has NUL bytes"),
-    "empty.json": (b"", "There is nothing to check"), "<b>name<b>.csv": (b"x", "This is a table."),
+    "binary.json": (b'{"a\0b"', "This file has NUL bytes"), "<b>name<b>.csv": (b"x", "refused: no heading row"),
+    "empty.json": (b"", "There is nothing to check"),
 }
 
 
 @pytest.mark.parametrize("name", FILES)
 def test_other_files(tab, tmp_path, name):
-    """What is neither a document nor lines gets a sentence that says what it is."""
+    """What cannot be read gets a sentence that says what it is, and what to do."""
     content, sentence = FILES[name]
     (tmp_path / name).write_bytes(content)
     assert choose(tab, tmp_path / name).startswith(sentence)
-    if "table" in sentence or "workbook" in sentence:
-        assert "--document line.json" in tab.run(STATUS)
 
 
 # What is before, between and after the 50 MB of a file, and how the sentence begins.

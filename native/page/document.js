@@ -6,6 +6,7 @@ import { recordView } from "./records.js";
 const ROWS = 100; // findings at a time
 const TELEGRAMS = 50; // at a time
 const LONGEST_ANSWER = 200000; // characters of the program's answer that are shown
+const LONGEST_NAME = 100; // characters of the name of a group
 const PARTS = ["What it says", "Why it matters", "Usual cause", "How to correct it"];
 
 // Where a finding or a refusal is.
@@ -22,12 +23,12 @@ function refusedSentence(data, found) {
     return `${found.reason}${where}${meaning ? `: ${meaning}` : ""}.`;
 }
 
-class DocumentView {
+export class DocumentView {
     constructor(data, input, answer, ask) {
         Object.assign(this, { data, input, answer, ask });
-        this.found = JSON.parse(answer.found);
+        this.found = JSON.parse(answer.found ?? "{}");
         this.findings = this.found.findings ?? [];
-        this.isRefused = this.found.verdict === "refused";
+        this.isRefused = answer.status === 2;
         this.place = make("div");
         this.title = make("h3", { tabindex: "-1", "aria-live": "polite" }, "Telegrams and messages in words");
         this.numbers = { group: this.number("group"), message: this.number("message") };
@@ -86,7 +87,8 @@ class DocumentView {
             return records.map((record, balise) => ({ record, group, aspect, balise }));
         });
         const view = ({ record, ...where }) => {
-            const label = whereText(aspects.length > 1 ? where : { ...where, aspect: undefined });
+            const place = whereText(aspects.length > 1 ? where : { ...where, aspect: undefined });
+            const label = record.where ? `${record.where}, ${shortened(record.name, LONGEST_NAME)}, ${place}` : place;
             return recordView(this.data, label, record, ...this.foundOf({ ...where, message: undefined }));
         };
         return [...whole, stepwise(all.length, TELEGRAMS, (from, count) => all.slice(from, from + count).map(view))];
@@ -123,8 +125,8 @@ class DocumentView {
     }
 
     // The program's own text.
-    said() {
-        return folded("The answer as the program writes it", () => {
+    said(title = "The answer as the program writes it") {
+        return folded(title, () => {
             const attributes = { tabindex: "0", role: "region", "aria-label": "the program's answer" };
             return make("pre", attributes, shortened(this.answer.said, LONGEST_ANSWER));
         });

@@ -4,12 +4,18 @@ import { make, paragraph } from "./view.js";
 import { sumOf } from "./exports.js";
 import { documentView, documentVerdict } from "./document.js";
 import { linesView, linesVerdict } from "./lists.js";
+import { tableView, tableVerdict } from "./tableview.js";
+import { workbookOf } from "./workbook.js";
 
 // The smallest module with 64-bit memory.
 const SMALLEST = [0, 97, 115, 109, 1, 0, 0, 0, 5, 3, 1, 4, 1];
 const LARGEST = 1e9; // bytes of an input
 const LONGEST_PASTE = 200000; // characters that are put into the field
-const SHOWS = { document: [documentVerdict, documentView], lines: [linesVerdict, linesView] };
+const LARGEST_TABLE = 2e8; // bytes of a table or workbook
+const SHOWS = { document: [documentVerdict, documentView], lines: [linesVerdict, linesView],
+    table: [tableVerdict, tableView], workbook: [tableVerdict, tableView] };
+const READ_AS = { document: "a document", lines: "lines of telegrams and messages", table: "a table", workbook: "a workbook" };
+const COLUMNS = ["group", "telegram", "aspect", "balise"];
 const its = Object.fromEntries([...document.querySelectorAll("[id]")].map((element) => [element.id, element]));
 const data = JSON.parse(its.data.textContent);
 let worker; // what runs beside the page, if it runs
@@ -97,9 +103,27 @@ async function ask(what, more) {
     });
 }
 
+// What the input is read as. Bytes that cannot be the chosen table are what they look like.
 function chosenKind(name, bytes) {
-    const chosen = document.querySelector("[name=kind]:checked").value;
-    return chosen || kindOf(name, bytes);
+    const chosen = document.querySelector("[name=kind]:checked").value, found = kindOf(name, bytes);
+    return chosen && !(chosen === "table" && (found === "workbook" || NOT_READ[found])) ? chosen : found;
+}
+
+// The headings of a table that are looked for.
+function headings() {
+    const words = Object.fromEntries(COLUMNS.map((name) => [name, its[`heading-${name}`].value || name]));
+    const isTwice = new Set(Object.values(words).map((it) => it.toLowerCase())).size < COLUMNS.length;
+    if (isTwice) throw new Error("two columns of a table cannot have one heading");
+    return words;
+}
+
+// What the worker is asked. A workbook is unpacked here, since its XML cannot be read beside the page.
+async function requestOf(kind, bytes) {
+    if (kind === "document" || kind === "lines") return { bytes };
+    if (bytes.length > LARGEST_TABLE) throw new Error("a table can have at most 200 MB. Split it, or use the program");
+    const more = { words: headings(), reasons: data.reasons };
+    if (kind === "table") return { bytes, ...more };
+    return { book: await workbookOf(bytes, progress), ...more };
 }
 
 // Checks the bytes of an input, and shows the answer.
@@ -116,7 +140,9 @@ async function judge(name, bytes) {
     say("Working.");
     progress({ step: "starting" });
     try {
-        const answer = await ask(kind, { bytes });
+        const request = await requestOf(kind, bytes);
+        if (own !== current) return;
+        const answer = { ...await ask(kind, request), isBook: kind === "workbook", notes: request.book?.notes };
         const input = { name, bytes, sum: await sumOf(bytes) };
         if (own === current) show(kind, input, answer, Math.round(performance.now() - started));
     } catch (error) {
@@ -128,8 +154,7 @@ function show(kind, input, answer, time) {
     const [verdict, view] = SHOWS[kind];
     isWorking(false);
     say(...verdict(data, input, answer));
-    const read = kind === "document" ? "a document" : "lines of telegrams and messages";
-    const about = `${input.name}: ${input.bytes.length} bytes, read as ${read}, ${time} ms`;
+    const about = `${input.name}: ${input.bytes.length} bytes, read as ${READ_AS[kind]}, ${time} ms`;
     const sum = input.sum ? [". SHA-256: ", make("code", {}, input.sum)] : "";
     const shown = answer.status === 3 ? [] : view(data, input, answer, ask);
     its.result.replaceChildren(make("p", {}, about, sum), ...shown);
