@@ -31,8 +31,8 @@ ANY: Any = balisekit
 """The package for calls with arguments of other types."""
 PLAN = TOP / "examples" / "meaning"
 FUNCTIONS = """\
-check(table, *, messages, only, accepted, plan, design, jumps, tolerance, line_speed, release_speed, rules, rules_from, \
-columns, by_position, everything, program)
+check(table, *, messages, only, accepted, plan, design, jumps, tolerance, line_speed, release_speed, rules, \
+rules_from, columns, by_position, everything, program)
 diff(old, new)
 read_messages(path)
 read_table(path, sheet, by_position, columns, fill_merged, skip_columns)"""

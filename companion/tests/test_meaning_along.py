@@ -1325,6 +1325,8 @@ def test_e29_of_two_packets_of_one_message(found: Found) -> None:
     apart = with_packet("Signal 3", GREEN, condition(2500)), with_packet("Signal 3", YELLOW, condition(2600))
     (one,) = found("E29", SHORT, all_of(*apart))
     assert rows_named(one) == (12, 13)
+
+
 def test_e29_of_far_places(found: Found) -> None:
     """A group states another place than the groups in rear of it. Two groups, or one telegram, show two conditions."""
     usual = [with_packet(f"Signal {number}", FIXED, condition(7000 - 1500 * number)) for number in (1, 2)]

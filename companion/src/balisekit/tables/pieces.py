@@ -198,7 +198,7 @@ def _end_of(digits: str) -> int:
 
 
 def _places(digits: str) -> List[int]:
-    """Where the packets of a telegram begin, in bits. The last place has the mark of the end, or is none of a packet."""
+    """Where the packets of a telegram begin, in bits. The mark of the end is at the last one, or no packet is."""
     bits, places = _bits(digits), [HEADER]
     while places[-1] + 8 <= len(bits):
         at = places[-1]

@@ -43,7 +43,7 @@ from balisekit.rules.location import Location
 from balisekit.rules.rule import Options, Remark, Result, Rule, Urgency
 from balisekit.rules.track_plan.placed import NO_PLACE, PlacedPlan, cells_of
 from balisekit.rules.track_plan.stating import ONE_WAY, Stating, ends_of, profiles_of
-from balisekit.tables.names import NAMED, clean, kilometre, listed, rows_words
+from balisekit.tables.names import NAMED, clean, kilometre, listed
 from balisekit.tables.plan import PlanRow, rows_named
 
 KINDS = ("speed", "gradient", "signal")
