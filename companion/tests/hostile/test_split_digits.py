@@ -78,9 +78,10 @@ def test_one_below_the_other_without_fill(sizes: str, run: Run, table: Write) ->
 
 @pytest.mark.parametrize("size", [8, 16, 20, 24])
 def test_rows_of_random_digits(size: int) -> None:
-    """One in 1,000 is named at most: lists of checksums are no telegrams."""
+    """In 20,000 rows at most one run of them looks like a telegram: lists of checksums are none."""
     random = Random(size)
-    assert len(unread_digits.digits_in_rows([f"{random.getrandbits(4 * size):0{size}x}" for _ in range(20_000)])) <= 20
+    rows = sorted(unread_digits.digits_in_rows([f"{random.getrandbits(4 * size):0{size}x}" for _ in range(20_000)]))
+    assert sum(row - 1 not in rows for row in rows) <= 1
 
 
 @pytest.mark.parametrize("kind", ["md5", "sha1", "sha256"])

@@ -8,8 +8,6 @@ import re
 from itertools import accumulate
 from typing import Dict, Iterator, List, Sequence
 
-from balisekit.etcs.packets import TRACK
-
 VERSIONS = ("a0", "a1", "90", "91")
 """With what a telegram begins."""
 LENGTHS = (53, 54, 208)
@@ -187,8 +185,7 @@ def _is_without_fill(digits: str) -> bool:
     """Whether digits are a telegram up to its end, with nothing or only fill behind it. The end may be cut off too."""
     bits, end, *places = _bits(digits), _end_of(f"{digits}ff"), *_places(f"{digits}ff")[:-1]
     packets = [at for at in places if _number(bits, at)]  # (a long row of zeros looks like packets 0)
-    are_known = all(_number(bits, at) in TRACK and _has_length(bits, at) for at in packets)
-    return end > 0 and bool(packets) and are_known and len({*bits[end:]}) < 2
+    return end > 0 and bool(packets) and all(_has_length(bits, at) for at in packets) and len({*bits[end:]}) < 2
 
 
 def _end_of(digits: str) -> int:

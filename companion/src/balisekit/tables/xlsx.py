@@ -81,6 +81,7 @@ def read(content: bytes, name: Optional[str], headings: Headings = Headings(), f
     """The cells of the sheet of this name, else of the one that has the needed headings."""
     with _opened(content) as book:
         sheet, note = _chosen(book.workbook, name, headings, fill_merged)
+        made = _sheet(book, sheet)  # (before the strings that no cell has are counted)
         found: Dict[str, Found] = {}
         beside = Beside([], [])
         if headings.has_telegrams:
@@ -91,8 +92,8 @@ def read(content: bytes, name: Optional[str], headings: Headings = Headings(), f
         notes = (note, *_notes(beside.telegrams, BESIDE), *_notes(beside.not_searched, NOT_SEARCHED))
         notes += tuple(_notes(_merged(sheet), FILLED if fill_merged else MERGED if headings.has_telegrams else UNMERGE))
         others = tuple(title for title in book.titles if title != sheet.title)
-        read_sheet = _sheet(book, sheet)._replace(notes=notes, others=others, is_filled=fill_merged)
-        return read_sheet._replace(in_others=found, is_chosen=name is not None)
+        made = made._replace(notes=notes, others=others, is_filled=fill_merged)
+        return made._replace(in_others=found, is_chosen=name is not None)
 
 
 def read_all(content: bytes) -> List[Sheet]:
