@@ -48,9 +48,9 @@ MADE: Mapping[str, Callable[[], Sequence[Row]]] = {
 NAMES = (*LINES, *MADE)
 PER_KIND, SEED = 2, 1
 OF_FIELDS = 3
-"""Of the changes of single variables, which are many, one in so many is stored."""
+"""Of the changes of single variables, which are many, one in this many is stored."""
 SAMPLE = 12
-"""Of the changes that are found, the tests of the gate judge one in so many again."""
+"""Of the changes that are found, the tests of the gate judge one in this many again."""
 HEADING = ("line", "kind", "variable", "answers")
 LETTERS = {
     **{Answer.FOUND: "F", Answer.ELSEWHERE: "E", Answer.HINTED: "H"},

@@ -66,11 +66,11 @@ def test_a_page_that_has_changed_is_noticed(page: str, heading: str, word: str, 
 
 AT_WORST = {
     Urgency.WRONG_INFORMATION: (
-        r"Wrong information\b|At worst (?:an old profile is used\.|the train (?:brakes too late|is too fast)\b)"
+        r"At worst the train (?:gets wrong information\b|uses an old profile\.|brakes too late\b|is too fast\b)"
     ),
-    Urgency.WRONG_PLACE: r"A wrong position of the train\.",
-    Urgency.NOT_JUDGED: r"Not judged\.",
-    Urgency.BRAKING: r"Braking[.,;]",
+    Urgency.WRONG_PLACE: r"At worst the train has a wrong position\.",
+    Urgency.NOT_JUDGED: r"The program does not judge\b",
+    Urgency.BRAKING: r"At worst the train brakes,",
 }
 
 

@@ -278,7 +278,7 @@ def _from_here(path: str, folder: str) -> str:
 
 
 def _program(program: Union[Program, Path, None]) -> Program:
-    """The program that was given, or the one of a path, or the one of this balisekit."""
+    """The program that was given, the program at a path that was given, or the program of this balisekit."""
     if program is None or isinstance(program, Program):
         return program or Program.find()
     return Program.find(stated.path(program))

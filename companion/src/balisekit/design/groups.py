@@ -62,7 +62,7 @@ def link(sender: DesignedGroup, target: DesignedGroup, is_nominal: bool) -> Tupl
 def differing_kilometres(
     stated: Sequence[Optional[Decimal]], wanted: Sequence[Decimal], allowed: int
 ) -> Iterator[Tuple[Decimal, Decimal]]:
-    """Kilometres of balises that differ by more than so many decimetres: each with the one of the design."""
+    """Kilometres that differ from the design by more than `allowed` decimetres, each with that of the design."""
     for one, other in zip(stated, wanted):
         if one is not None and abs(one - other) * 10_000 > allowed:
             yield one, other

@@ -6,12 +6,12 @@ from typing import Mapping
 
 SENTENCES: Mapping[str, str] = {
     "kilometres": (
-        "The rule relies on the kilometres of the table as positions on the track. It can be wrong if a kilometre "
-        "occurs twice, is rounded coarsely, follows another axis than the track, or belongs to a signal instead of the "
-        "balise. It can also be wrong if the kilometres jump and neither `--jumps` nor the track plan states it. The "
-        "same holds if the table has several tracks without names."
+        "The rule relies on the kilometres of the table as positions on the track. A remark can be wrong if a "
+        "kilometre occurs twice, is rounded coarsely, follows another axis than the track, or belongs to a signal "
+        "instead of the balise. A remark can also be wrong if the kilometres jump and neither `--jumps` nor the track "
+        "plan states the jump. The same holds if the table has several tracks without names."
     ),
-    "missing": "A missing kilometre can also make the rule wrong.",
+    "missing": "A missing kilometre can also lead to a wrong remark.",
     "leaving": (
         "The rule also assumes that trains stay on the track. A train that runs through a loop, or takes a route to "
         "another track, breaks this assumption."

@@ -14,7 +14,7 @@ class NotJudged(NamedTuple):
     asked: bool = False
     """Whether an option of the command line asked for it."""
     columns: Tuple[str, ...] = ()
-    """The heading of their column, if it is not the one of the telegrams. Digits may be spread over several columns."""
+    """The heading of their column, unless it is the column of telegrams. Digits may be spread over several columns."""
     sheet: Optional[str] = None
     """Of a workbook."""
     formulas: int = 0
@@ -66,11 +66,11 @@ class Account(NamedTuple):
         return not (self.overlooked or self.unknown or self.possible)
 
     def refusing(self, count: int) -> Account:
-        """The same with so many more telegrams refused."""
+        """The same account with this many more telegrams refused."""
         return self._replace(refused=self.refused + count)
 
     def without(self, why: str, rows: Collection[int], asked: bool = False) -> Account:
-        """The same with the telegrams of these rows not judged."""
+        """The same account with the telegrams of these rows not judged."""
         left_out = NotJudged(why, tuple(sorted(rows)), len(rows), asked, sheet=next(iter(self.sheets), None))
         return self._replace(not_judged=(*self.not_judged, left_out)) if rows else self
 

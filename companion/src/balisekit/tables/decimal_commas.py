@@ -14,8 +14,9 @@ WHOLE, DIGITS, METRES = expression("[-\u2212]?[0-9]{1,4}"), expression("[0-9]{1,
 def faults(sheet: Sheet, begin: int, width: int, places: Mapping[str, int], name: str = "km") -> List[TableError]:
     """A fault for each row below row `begin` whose kilometre seems to be in two cells.
 
-    `width` is that of the heading, `places` has the columns that are read, and `name` is the one of kilometres. Digits
-    in a column that is read are metres only if the row has a cell too many, or if all kilometres look like that.
+    `width` is the number of cells of the heading. `places` has the columns that are read, and `name` is the name of the
+    column of kilometres. Digits in a column that is read are metres only if the row has a cell too many, or if all
+    kilometres look like that.
     """
     if sheet.separator != "," or name not in places:
         return []

@@ -25,7 +25,7 @@ from balisekit.tables.pieces import (
 )
 
 LEAST_DIGITS, LEAST_LETTERS, LEAST_RUN = 40, 4, 13
-"""How many digits could be a telegram: in groups, if so many are letters; or in one run, if one of them is a letter."""
+"""How many digits could be a telegram: in groups, and how many of them must be letters; or in a run with a letter."""
 CHECKSUM = expression(r"(?<![^\W_])(?:0[xX])?([0-9A-Fa-f]{32}|[0-9A-Fa-f]{40}|(?:[0-9A-Fa-f]{32}){2,4})(?![^\W_])")
 """An MD5, SHA-1, SHA-256, SHA-384 or SHA-512, unless it looks like a telegram with fill, or like a part of one."""
 LEAST_REST, FILL = 10, expression("(?:[Ff]{4,}|0{4,})$")

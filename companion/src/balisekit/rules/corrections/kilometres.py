@@ -162,7 +162,7 @@ def _moved(one: Elsewhere) -> Correction:
 
 
 def _agree(off: int) -> str:
-    """What links would do that lead up to so many decimetres elsewhere."""
+    """That links would agree, or differ by at most `off` decimetres."""
     return f"differ by at most {Decimal(off) / 10:f} m" if off else "agree"
 
 

@@ -3,19 +3,20 @@
 What it says. Q_LINKORIENTATION of a linked group does not fit the order of its balises along the track. The variable
 states whether a train that runs towards the group passes its balises in rising order (nominal, 1) or in falling order
 (reverse, 0). The rule compares only groups of two or more balises. A single balise has no order, and gets its direction
-by this very variable. If all balises of a group have one kilometre, the groups to which its own links lead show the
+from this variable. If all balises of a group have the same kilometre, the groups to which its own links lead show the
 direction instead. The rule rests on SUBSET-026, 3.4.2 and 3.4.4.
 
 Why it matters. At worst the train brakes or is tripped at each passage. The order of the balises shows the train
-another direction than the link announced. It then applies the linking reaction, or rejects the message of the group.
+another direction than the link announced. The train then applies the linking reaction, or rejects the message of the
+group.
 
 Example. Before (`examples/links/orientation-differs.csv`): the link of A says that B (km 11.000) is passed in nominal
 direction, but its balises show the reverse direction. After (`examples/links/line.csv`): Q_LINKORIENTATION of this link
 is 0, reverse.
 
 When it is a false alarm. Never, if each track has a name, its kilometres rise steadily from one end to the other, and
-trains use packets with Q_DIR 2 in both directions. On a balloon loop the kilometres do not rise steadily. The same
-holds if they turn back, jump or are rounded within a group.
+trains use packets with Q_DIR 2 in both directions. Kilometres do not rise steadily on a balloon loop, or if they turn
+back, jump or are rounded within a group.
 
 Usual cause. The group was turned, or a link was copied from a group that faces the other way. If the table has the
 balises in another order than the track, F1 is found as well, and the remark names it. Sometimes the order of the
@@ -23,8 +24,8 @@ sending group is the wrong one, and the remark then blames the next group.
 
 How to correct it. Correct Q_LINKORIENTATION. If the order of the balises in the table is wrong, correct the table.
 
-How to accept it. The only reason is a track whose kilometres do not rise steadily. Name it, for example as a balloon
-loop.
+How to accept it. State why the kilometres of the track do not rise steadily, for example because it is a balloon loop.
+No other reason is usual.
 """
 from __future__ import annotations
 

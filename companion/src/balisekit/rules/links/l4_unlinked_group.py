@@ -5,8 +5,8 @@ the named group. It lists up to three groups or messages whose packets 5 name th
 packets 5 after a packet 136. It rests on SUBSET-026, 3.4.4 and 7.5.1.
 
 Why it matters. To be looked at: linking does not supervise this group. A train accepts a group with Q_LINK 0 at any
-place, also outside its expectation window. So the train does not notice that the group is at a wrong place, and does
-not correct its position by this group.
+place, even outside the expectation window of the link. So the train does not notice that the group is at a wrong place,
+and does not correct its position by this group.
 
 Example. Before (`examples/links/linked-but-not-linked.csv`): both balises of B (km 11.000) have Q_LINK 0, and the
 packet 5 of A names B. After (`examples/links/line.csv`): both balises have Q_LINK 1.

@@ -1,15 +1,15 @@
 """L5: direction of a single balise not known.
 
-What it says. A single balise has Q_LINK 0, and a packet other than 44, 145 and 254 that holds in one direction only
-(Q_DIR 0 or 1). The remark names the first such packet. A single balise has no direction of its own, and with Q_LINK 0
-it gets none by linking. The rule rests on SUBSET-026, 3.4.2.
+What it says. A group of one balise has Q_LINK 0, and a packet that holds in one direction only (Q_DIR 0 or 1). The
+packets 44, 145 and 254 do not count. The remark names the first packet that counts. A single balise has no direction of
+its own, and with Q_LINK 0 it gets none by linking. The rule rests on SUBSET-026, 3.4.2.
 
-Why it matters. At worst the train gets wrong information for the other direction, or none. It does not know in which
-direction it passes the balise, so it cannot use a packet that holds in only one of them.
+Why it matters. At worst the train gets wrong information, or lacks the information of this packet. The train does not
+know in which direction it passes the balise, so it cannot use a packet that holds in one direction only.
 
 Example. Before (`examples/links/direction-not-known.csv`): D (km 12.500) is a single balise with Q_LINK 0, and its
-packet 41 holds only in nominal direction. After (`examples/links/line.csv`): the packet 41 has Q_DIR 2, because its
-order is for the place of the balise.
+packet 41 holds only in nominal direction. After (`examples/links/line.csv`): the packet 41 has Q_DIR 2, because it
+orders the level at the balise itself.
 
 When it is a false alarm. Never, as far as this project knows: nothing else tells the train its direction.
 

@@ -4,14 +4,15 @@ What it says. The header of a balise has NID_BG 16,383, which means that the ide
 number. The rule rests on SUBSET-026, 7.5.1.
 
 Why it matters. At worst the train has a wrong position. No link can name the group, and no train can report its
-position from it. Two such groups even have the same identity, which the program finds as F14.
+position relative to it. Two such groups even have the same identity, which the program finds as F14.
 
 Example. Before (`examples/links/identity-not-known.csv`): the balise of D (km 12.500) has NID_BG 16,383. After
 (`examples/links/line.csv`): it has the number of the group.
 
 When it is a false alarm. Never, as far as this project knows: a group that is programmed has a number.
 
-Usual cause. A template was not filled in completely. Or the number of a link that is not known yet got into a header.
+Usual cause. A template was not filled in completely. Or 16,383 was copied into a header from a link to a group that is
+not known yet.
 
 How to correct it. Give the group a number of its own, from 0 to 16,382, in all its telegrams.
 

@@ -21,7 +21,7 @@ profile of the track before this place.
 
 How to correct it. Set the first distance to 0, and add the values of the track from the group on.
 
-How to accept it. Name the earlier message or group that gives the profile of the track before.
+How to accept it. Name the earlier message or group that gives the profile of the track before the first element.
 """
 from __future__ import annotations
 

@@ -1,19 +1,22 @@
 """L9: linked group passed over.
 
-What it says. A group with Q_LINK 1 and data for this direction lies between two neighbours of a packet 5, and the
-packet 5 does not name the group. The rule rests on SUBSET-026, 3.4.4.
-- The first two neighbours of a packet 5 are the group that sends it and the first group that it names. The next two
-  neighbours are the first and the second group that it names, and so on.
-- The kilometres show which groups lie between two neighbours. If there are several such groups, the remark names up to
-  three.
+What it says. A packet 5 leads past a group without naming it, although the group has Q_LINK 1 and data for trains in
+this direction. The rule rests on SUBSET-026, 3.4.4.
+- The rule looks for such groups between neighbours. The first two neighbours are the group that sends the packet 5 and
+  the first group that it names. The next two are the first and the second group that it names, and so on.
+- The kilometres show which groups lie between two neighbours. The remark names up to three groups between two
+  neighbours.
 - The group must have data for the direction in which trains pass it. If this direction is not known, the group must
   have data for both directions.
 - Packets 0, 145, 254 and 255 and refused telegrams do not count as data.
-- The rule does not look between two neighbours if one of them is not in the table, or if they are on different tracks.
-- A note counts the groups between neighbours that have Q_LINK 1 and are not named, and are not known to have such data.
+- The rule does not look between two neighbours on different tracks. It also does not look if one of them is not in the
+  table, or if its place is unknown. A place is unknown if the kilometre is missing, or if a jump leaves it out or
+  repeats it.
+- A group that has Q_LINK 1 and is not named, but is not known to have such data, is not reported. A note counts such
+  groups.
 
 Why it matters. To be looked at: a train that uses these links ignores the group. Such a train uses a group with Q_LINK
-1 only if the group is linked. So the train loses the information of this group, and does not react to that.
+1 only if a link names the group. So the train loses the information of this group, and does not react to the loss.
 
 Example. Before (`examples/links/group-passed-over.csv`): A (km 10.000) links only C (km 12.000), and B (km 11.000) has
 Q_LINK 1 and is between them. After (`examples/links/line.csv`): the packet 5 of A names B and then C.
@@ -31,7 +34,7 @@ packet 5 does not pass the group.
 How to correct it. Add the group to the packet 5, and correct the distance to the next group. If trains must use the
 group without linking, set the Q_LINK of the group to 0.
 
-How to accept it. Give the route of the packet 5, or the trains that the group is for, as the reason.
+How to accept it. As the reason, give the route of the packet 5, or name the trains that the group is for.
 """
 from __future__ import annotations
 

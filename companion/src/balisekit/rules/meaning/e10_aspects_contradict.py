@@ -59,7 +59,7 @@ from balisekit.rules.touching import longer
 from balisekit.tables.names import listed, quoted, rows_words
 
 APART = {SPEEDS: 0, GRADIENTS: 5}
-"""By how much values may differ: gradients by so many per mille."""
+"""By how much values may differ: gradients in per mille."""
 NAMED, REFUSED, BEHIND_POINT = 5, "refused", "stretches beyond a point of the plan that differ"
 """How many aspects are named, and why some are not compared."""
 

@@ -1,29 +1,31 @@
 """E12: end of authority.
 
-What it says. An authority ends at another place than the other authorities to the same group, or 50 m to 200 m from the
-nearest group, or farther away. The rule compares the ends of authorities with each other, and each end with the places
-of groups. It rests on SUBSET-026, 3.8 and 7.4.2.
+What it says. An authority ends at another place than the other authorities to the same group, or more than 50 m from
+every group. The rule compares the ends of authorities with each other, and each end with the places of groups. It rests
+on SUBSET-026, 3.8 and 7.4.2.
 - The rule compares the ends of all authorities that lead to one group, on one track and in one direction. The most
   frequent end counts as right, and the rule reports each other end. If several ends are equally frequent, the end
   nearest to the group counts as right.
-- The rule compares authorities without packets 5 with each other if each end is at most 20 m from the next end. If
-  several of these ends are equally frequent, the end at the lowest kilometre counts as right.
-- The rule reports a packet 12 whose end is 50 m to 200 m from the nearest group. It reports no packet 15 for this.
-- The rule reports an end more than 200 m from each group under two conditions. The packets 5 of the authority name a
-  group of the track beyond the end. At least four of five senders of packets 12 (or of packets 15), and at least four,
-  have ends at groups. Ends that do not meet these conditions are only counted.
+- Authorities without packets 5 are compared with each other if each end is at most 20 m from the next end. If several
+  of these ends are equally frequent, the end at the lowest kilometre counts as right.
+- An end is at a group if it is at most 50 m from the group, apart from `--tolerance` and rounding.
+- The rule reports a packet 12 whose end is at no group, but at most 200 m from the nearest group. It does not report a
+  packet 15 for such an end.
+- The rule reports an end more than 200 m from each group under two conditions. The packets 5 sent with the authority
+  name a group of the track beyond the end. For each sender of such an end, at least four other senders have ends at
+  groups. Packets 12 and packets 15 are counted separately. Ends that do not meet both conditions are only counted.
 - An authority is a packet 12 with V_MAIN above 0, or a packet 15. The packets after a packet 136 are not compared.
-- The end of an authority is as far from the sending group along the kilometres as the sum of L_SECTION and
-  L_ENDSECTION. A group is at the place of its first balise.
+- The sum of L_SECTION and L_ENDSECTION, counted along the kilometres from the sending group, leads to the end of an
+  authority. A group is at the place of its first balise.
 - An authority leads to the group in its packets 5 that is nearest to its end, if this group is at most 200 m from the
   end. If the nearest group is farther away, the authority leads to the last group before the end. Then its packets 5
   must also name a group beyond the end.
 - An authority leads to no group if D_LINK and the kilometres disagree by more than 200 m about the place of the group.
-- An end away from groups is reported only between the first and the last group that gives an authority for this track
+- The rule reports that an end is at no group only between the first and the last group with an authority for this track
   and direction. Beyond the last one it is counted as not compared, unless it leads to a group or others end beside it.
 - An end more than 200 m from each group is not reported if V_LOA is above 0.
-- An end away from groups is not reported if packets 5 name a group there whose place on this track the table does not
-  show. That group is not in the table, has no kilometre, or is on another track.
+- The rule does not report that an end is at no group if packets 5 name a group there whose place on the track is
+  unknown. That group is not in the table, has no kilometre, or is on another track.
 - An end beyond a `point` of the track plan is not compared.
 - Two ends are at the same place if they differ by at most `--tolerance` (default 1 m) and rounding.
 
@@ -33,12 +35,12 @@ train stops some metres in rear of the signal.
 Example. Before (`examples/meaning/mistakes/E12.csv`): at "green" the authority of Signal 3 ends at km 16.050, and 1
 other authority that leads to Signal 5 ends at km 16.000. After: L_ENDSECTION of "green" is 50 m shorter.
 
-When it is a false alarm. The rule assumes that all authorities to one group end at one place. An authority for a
-calling-on route, with a limit of authority (V_LOA above 0), or by radio up to a marker board can end elsewhere. An
-authority can also end at a signal up to 200 m beyond the last group in its packets 5. The rule also assumes that each
-authority ends at a group. In limited supervision an authority might end elsewhere. An authority might also end at a
-buffer stop, a board or a border. Such a place need not have a group of the table or of a packet 5 within 50 m.
-{leaving} {points} {kilometres} {one way}
+When it is a false alarm. The rule assumes that all authorities to one group end at one place. An authority can end
+elsewhere if it is for a calling-on route, has a limit of authority (V_LOA above 0), or leads by radio to a marker
+board. An authority can also end at a signal up to 200 m beyond the last group in its packets 5. The rule also assumes
+that each authority ends at a group. In limited supervision an authority might end elsewhere. An authority might also
+end at a buffer stop, a board or a border. There might be no group of the table or of a packet 5 within 50 m of such a
+place. {leaving} {points} {kilometres} {one way}
 
 Usual cause. A length was typed wrongly, or has a wrong Q_SCALE. Or a signal was moved, and not all groups in rear of
 the signal were changed.

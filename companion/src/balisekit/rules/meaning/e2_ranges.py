@@ -16,16 +16,16 @@ Example. Before (`examples/meaning/mistakes/E2.csv`): at "green" of Signal 3 (km
 
 When it is a false alarm. The rule assumes that its limits hold for all trains. That is not so if the line is faster or
 steeper, or if it has greater release speeds. V_DIFF for tilting trains can be above the limit too. The rule also
-assumes that each speed restricts the train. Some projects send a great speed on purpose, so that it does not restrict
-the train. The rule also assumes, with `--rules E2`, that the speed profile in the message contains the fastest stretch
-of the route. Another group might send the profile of that stretch.
+assumes that each speed is meant to restrict the train. Some projects send a great speed on purpose, so that it
+restricts no train. The rule also assumes, with `--rules E2`, that the speed profile in the message contains the fastest
+stretch of the route. Another group might send the profile of that stretch.
 
-Usual cause. A speed was entered in km/h and not in steps of 5 km/h. So 100 means 500 km/h. Or a gradient was entered in
-tenths of a per mille.
+Usual cause. A speed was entered in km/h instead of steps of 5 km/h, so the value 100 means 500 km/h. Or a gradient was
+entered in tenths of a per mille.
 
 How to correct it. Correct the value. If the line is faster, state its greatest speed with `--line-speed`.
 
-How to accept it. Give the greatest speed or gradient of this place by the track plan as the reason.
+How to accept it. As the reason, give the greatest speed or gradient that the track plan states for this place.
 
 How sure. 92 %, by practice and memory of the standard. The part about V_MAIN and the profile is less than 85 % sure, so
 it is off without `--rules E2`.

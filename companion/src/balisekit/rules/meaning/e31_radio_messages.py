@@ -4,13 +4,13 @@ What it says. A radio message names a group that the table does not have, or a p
 rule rests on SUBSET-026, 3.4.3, 3.6.2 and 8.7.
 - Unknown group: a message 3 (movement authority) or a position report has an NID_LRBG that no group of the table has. A
   position report is packet 0 or 1 of a message 136.
-- Passed group: D_LRBG of a position report leads beyond the next linked group of the track by more than the tolerance
-  below. The train should then have reported its position from that group.
+- Passed group: D_LRBG of a position report leads beyond the next group of the track that has Q_LINK 1, by more than the
+  tolerance of D_LRBG. The train should then have reported its position relative to that group.
 - Two positions: two position reports of one NID_ENGINE have the same T_TRAIN, but different groups, distances or sides
   of the group.
-- The tolerance of D_LRBG is the sum of L_DOUBTOVER, one unit of Q_SCALE, `--tolerance` (default 1 m) and one unit of
-  the kilometres' last digit. This unit is at most 1 m. L_DOUBTOVER is how far the train might be in rear of the place
-  that it reports.
+- The tolerance of D_LRBG is the sum of L_DOUBTOVER, one unit of Q_SCALE, `--tolerance` (default 1 m) and the rounding
+  of the kilometres. This rounding is one unit of their last digit, but at most 1 m. L_DOUBTOVER is how far the train
+  might be in rear of the place that it reports.
 - Distances of two reports with different Q_SCALE may differ by the greater unit, because of the rounding. Distances
   with the same Q_SCALE must be equal.
 - NID_BG 16,383 means that the group is not known, and it is not reported. No unknown group is reported if the table has
@@ -23,11 +23,12 @@ Example. Before (`examples/meaning/mistakes/E31.csv` with `examples/meaning/mist
 message has the NID_LRBG of group 77, and the table has no such group. After: the message has the NID_LRBG of Signal 3,
 which is group 3.
 
-When it is a false alarm. The rule assumes that the table has all groups of the messages. A table of a part of the line
-lacks some of them. The rule assumes that a train reports its position from the last linked group. The train might have
-missed this group, or ignored it because no packet 5 announced it. D_LRBG leads to the front of the train, which might
-be some metres beyond a group that its antenna has not read yet. The rule also assumes that a T_TRAIN does not occur
-twice. The clock of a train might begin anew after a stop without power. {kilometres}
+When it is a false alarm. The rule assumes that the table has all groups of the messages. A table for a part of the line
+lacks some of them. The rule assumes that a train reports its position relative to the last group with Q_LINK 1. The
+train might have missed this group, or ignored it because no packet 5 announced it. D_LRBG leads to the front of the
+train, which might be some metres beyond a group that its antenna has not read yet. The rule also assumes that the
+T_TRAIN of a train does not occur at two different times. The clock of a train might begin anew after a stop without
+power. {kilometres}
 
 Usual cause. The messages were made for another release of the table, or NID_LRBG or D_LRBG was typed wrongly.
 

@@ -5,7 +5,7 @@ group. One remark names all such packets of a balise or message. The rule rests 
 - The rule looks at 21 packets: 5, 12, 15, 16, 21, 27, 39, 40, 41, 51, 52, 65, 67 to 71, 80, 88, 131 and 138.
 - A packet 41 is not reported if its D_LEVELTR is 0 or 32,767 (now), because it takes effect at the group.
 - A packet 39, 40, 51, 52, 68 to 70 or 131 is not reported if the only distance of the packet gives the place of its
-  group. This distance is a D_TRACTION, D_CURRENT, D_TRACKINIT, D_SUITABILITY or D_RBCTR 0, or a D_RBCTR 32,767 (now).
+  group. That is so if D_TRACTION, D_CURRENT, D_TRACKINIT or D_SUITABILITY is 0, or if D_RBCTR is 0 or 32,767 (now).
 - An authority without any length and without a V_MAIN above 0 stops the trains of both directions. Such an authority is
   reported only if the balise or message has no other packet to report.
 
@@ -16,19 +16,20 @@ Example. Before (`examples/meaning/mistakes/E5.csv`): the packet 41 of Signal 4 
 Q_DIR 2. After: Q_DIR is 1, so only trains in nominal direction count the distance.
 
 When it is a false alarm. The rule assumes that trains of both directions get the packet. That is not so on a track for
-one direction, or for a radio message. It assumes that the track differs on both sides. Level track, one speed, big
-metal masses or a restriction around the group are the same on both sides. It also assumes that an authority without
-length is for one direction. A group for the signals of both directions might stop the trains of both directions on
-purpose.
+one direction, or for a radio message. It assumes that the track is different on the two sides of the group. Level
+track, one speed, big metal masses or a restriction around the group can be the same on both sides. It also assumes that
+an authority without length is for one direction. A group for the signals of both directions might stop the trains of
+both directions on purpose.
 
-Usual cause. The template had Q_DIR 2. Or the packet was meant for one direction, and a single balise with Q_LINK 0 has
-no direction.
+Usual cause. The template had Q_DIR 2. Or the packet was meant for one direction, but got Q_DIR 2 because a single
+balise with Q_LINK 0 has no direction.
 
-How to correct it. Set Q_DIR to 1 or 0. A group of one balise gets its direction if it is linked, or by a second balise.
+How to correct it. Set Q_DIR to 1 or 0. A group of one balise gets a direction if it is linked, or if a second balise is
+added.
 
 How to accept it. State why the packet is true on both sides of the group, or that the track has one direction.
 
-How sure. 93 %, by practice and memory of the standard. That 3.6.3 is the section is 80 % sure.
+How sure. 93 %, by practice and memory of the standard. It is only 80 % sure that 3.6.3 is the right section.
 """
 from __future__ import annotations
 

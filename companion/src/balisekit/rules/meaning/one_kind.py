@@ -85,7 +85,7 @@ def _compare(
 
 
 def _remark(decoded: Decoded, stated: Stated, usual: Stated) -> Remark:
-    """A remark on a condition, with the one of another kind."""
+    """A remark on a condition, with the condition of the usual kind."""
     each, other, layout = stated.condition, usual.condition, LAYOUTS[stated.kind[0]]
     length = f" for {metres(each.length)}" if layout.length else ""
     pairs = {key: (own, its) for key, own, its in zip(layout.kind, stated.kind[1:], usual.kind[1:]) if own != its}

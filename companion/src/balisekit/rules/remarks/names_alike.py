@@ -29,7 +29,7 @@ TRACKS = "tracks"
 LOOK_ALIKE = str.maketrans(
     "АВЕЅЗІЈКМНОРСТУХаеѕіјорсухԁԛԝΑΒΕΖΗΙΚΜΝΟΡΤΥΧοѵ‐‑‒–—−", "ABES3IJKMHOPCTYXaesijopcyxdqwABEZHIKMNOPTYXov------"
 )
-"""Letters of Cyrillic and Greek, and dashes, each as the one of Latin that it looks like."""
+"""Letters of Cyrillic and Greek, and dashes, each with the Latin character that it looks like."""
 NUMBER = expression(r"(?<![0-9.,])0*([0-9]+)(?:[.,]0+)?(?![0-9]|[.,][0-9])")
 """A number, which spreadsheets and people write with more or fewer zeros: 1, 01, 1.0."""
 SIGNS = expression(r"(?<=[^\W\d_])[\s_.,:/-]+(?=[^\W_])|(?<=\d)[\s_.,:/-]+(?=[^\W\d_])")
