@@ -11,7 +11,7 @@ import meaning_line
 import meaning_mistakes
 import pytest
 from conftest import Run
-from meaning_line import Line, Row, change, table
+from meaning_line import Line, Row, Site, change, table, telegram as line_telegram
 from meaning_mistakes import (
     BORDER,
     BOTH,
@@ -1152,6 +1152,31 @@ def test_e28_of_two_groups(found: Found) -> None:
     assert found.result("E28", line, all_of(reverse[0])).not_looked_at == {}
     (one, other) = found("E28", line, with_packet("Signal 3", FIXED, session(direction=0), revocation(7, 0)))
     assert ", as 1 other packet is, and all other" in one.sentence and one.sentence == other.sentence
+
+
+def test_e28_of_a_group_with_nothing_else(found: Found) -> None:
+    """A group that only orders a session has it for the rare direction. An order of levels is counted."""
+
+    def with_group(*packets: Any, name: str = "Session", number: int = 900) -> Change:
+        site = Site(name, number, 12_200 + number // 10, 1, 1)
+        rows_ = [Row(name, f"{name} {at}", site.place + 3 * at, "", at, line_telegram(site, at, 255)) for at in (0, 1)]
+        rows_[0].form["packets"] = list(packets)
+        return lambda rows: rows.extend(copy.deepcopy(rows_))
+
+    line, wrong = Line(signals=8), with_group(session(direction=0))
+    (one,) = found("E28", line, wrong)
+    assert one.location.group and one.location.group.group.name == "Session" and "in 8 groups" in one.sentence
+    level: Any = {"nid_packet": 41, "q_dir": 0, "q_scale": 1, "d_leveltr": 32_767}
+    order = {**level, "transitions": [{"m_leveltr": 0, "l_ackleveltr": 0}]}
+    second = with_group(session(direction=0), name="Second", number=901)
+    for lane, change_, count in (
+        (Line(signals=7), wrong, 1),
+        (line, with_group(session(direction=0), order), 2),
+        (line, all_of(wrong, second), 2),
+    ):
+        result = found.result("E28", lane, change_)
+        assert not result.found and list(result.not_looked_at.values()) == [count]
+    assert not found("E28", line, with_group(session()))
 
 
 def crossing(distance: int, length: int = 20) -> Any:
