@@ -41,7 +41,7 @@ from balisekit.present.links_text import is_usual
 from balisekit.rules import checking, links, meaning
 from balisekit.rules.chainage import Jump
 from balisekit.rules.line import Line as LineOfTable
-from balisekit.rules.meaning import e22_temporary_restriction, ends_between, message_profiles
+from balisekit.rules.meaning import e22_temporary_restriction, ends_between, lacking_infill, message_profiles
 from balisekit.rules.rule import ALL, Options, Remark, Result, Urgency
 from balisekit.tables import messages as messages_file, plan as plan_file, reader
 
@@ -481,6 +481,33 @@ def test_e15(found: Found) -> None:
         "E15", INFILL, set_in(SITE, GREEN, 12, overlap={"d_startol": 100, "t_ol": 60, "d_ol": 190, "v_releaseol": 126})
     )
     assert one.sentence.startswith("D_OL is 190 m in the infill, and 200 m in packet 12 of Signal 4")
+
+
+def test_e15_of_an_empty_aspect(found: Found) -> None:
+    """Infill says nothing at an aspect at which trains may run. At red, or at two aspects, that may be a design."""
+
+    def emptied(*aspects: str) -> Change:
+        def empty(rows: List[Row]) -> None:
+            for aspect in aspects:
+                form_of(rows, SITE, aspect)["packets"] = []
+
+        return empty
+
+    (one,) = found("E15", INFILL, emptied(YELLOW))
+    assert one.sentence == (
+        'the aspect "yellow" has no packet 136, which all other aspects have, although V_MAIN is 140 km/h [28] in '
+        'packet 12 of Signal 4 (km 14.500), aspect "yellow", row 20'
+    )
+    assert list(one.rows) == [16] and list(one.aspects) == [YELLOW]
+    for aspects, count in (((RED,), 1), ((YELLOW, GREEN), 2)):
+        result = found.result("E15", INFILL, emptied(*aspects))
+        assert not result.found and dict(result.not_looked_at) == {lacking_infill.NO_REFERENCE: count}
+
+    def of_the_signal(rows: List[Row]) -> None:
+        form_of(rows, "Signal 4", YELLOW)["packets"] = []
+
+    result = found.result("E15", INFILL, all_of(emptied(YELLOW), of_the_signal))
+    assert not result.found and not result.not_looked_at
 
 
 @pytest.mark.parametrize("g_a, beside, said", [(0, 0, ""), (5, 5, "Q_GDIR"), (0, 5, "G_A"), (5, 0, "G_A")])
