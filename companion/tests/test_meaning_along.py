@@ -484,7 +484,7 @@ def test_e15(found: Found) -> None:
 
 
 def test_e15_of_an_empty_aspect(found: Found) -> None:
-    """Infill says nothing at an aspect at which trains may run. At red, or at two aspects, that may be a design."""
+    """Infill says nothing at an aspect at which trains may run. At red that is a design, and at two it may be."""
 
     def emptied(*aspects: str) -> Change:
         def empty(rows: List[Row]) -> None:
@@ -499,7 +499,8 @@ def test_e15_of_an_empty_aspect(found: Found) -> None:
         'packet 12 of Signal 4 (km 14.500), aspect "yellow", row 20'
     )
     assert list(one.rows) == [16] and list(one.aspects) == [YELLOW]
-    for aspects, count in (((RED,), 1), ((YELLOW, GREEN), 2)):
+    assert not found("E15", INFILL, emptied(RED))
+    for aspects, count in (((YELLOW, GREEN), 2), ((RED, YELLOW), 1)):
         result = found.result("E15", INFILL, emptied(*aspects))
         assert not result.found and dict(result.not_looked_at) == {lacking_infill.NO_REFERENCE: count}
 

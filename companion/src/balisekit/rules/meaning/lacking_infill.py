@@ -6,6 +6,7 @@ from typing import Iterator, List, NamedTuple, Optional, Sequence, Set
 from balisekit.etcs.geometry import DIRECTIONS
 from balisekit.rules.decoded import Decoded
 from balisekit.rules.location import Location
+from balisekit.rules.meaning.along import is_authority
 from balisekit.rules.meaning.infill_signals import AUTHORITY, identity_of, signal_of
 from balisekit.rules.meaning.sent import kmh, speed
 from balisekit.rules.meaning.words import source
@@ -25,9 +26,9 @@ class Lacking(NamedTuple):
 
 
 def lacking_infill(decoded: Decoded) -> Lacking:
-    """Looks at the groups of which an aspect has a packet 136, and another one has none.
+    """Looks at the groups of which an aspect has a packet 136, and another one at which trains may run has none.
 
-    One aspect is reported if all others of its group have one, and trains may run at it. Several may be a design.
+    One aspect is reported if all others of its group have one. Several may be a design.
     """
     found: List[Remark] = []
     left = 0
@@ -36,15 +37,13 @@ def lacking_infill(decoded: Decoded) -> Lacking:
             having = [each for each in data.passages if each.direction == direction and each.reference is not None]
             lacking = {each.name for each in data.group.group.aspects} - {each.aspect for each in having}
             for signal in _of_signals(decoded, having, lacking if having else set()):
-                (authority, *_) = signal.of(AUTHORITY)
-                is_lone = len(lacking) == 1 and bool(authority.form["v_main"])
-                found += [_remark(data, direction, signal)] if is_lone else []
-                left += not is_lone
+                found += [_remark(data, direction, signal)] if len(lacking) == 1 else []
+                left += len(lacking) > 1
     return Lacking(found, left)
 
 
 def _of_signals(decoded: Decoded, having: Sequence[Passage], lacking: Set[str]) -> Iterator[Passage]:
-    """What the signal has at each of the aspects that are lacking, if that is an authority."""
+    """What the signal has at each of the aspects that are lacking, if that is an authority with V_MAIN above 0."""
     if not lacking:
         return
     signal: Optional[Passage] = None
@@ -54,7 +53,8 @@ def _of_signals(decoded: Decoded, having: Sequence[Passage], lacking: Set[str]) 
         signal = signal or (signal_of(decoded, each, target) if target else None)
     if signal is not None and signal.group is not None:
         for each in signal.group.passages:
-            if each.direction == signal.direction and each.aspect in lacking and each.of(AUTHORITY):
+            is_meant = each.direction == signal.direction and each.aspect in lacking
+            if is_meant and any(map(is_authority, each.of(AUTHORITY))):
                 yield each
 
 
