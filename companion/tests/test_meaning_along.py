@@ -11,7 +11,7 @@ import meaning_line
 import meaning_mistakes
 import pytest
 from conftest import Run
-from meaning_line import Line, Row, change, table
+from meaning_line import Line, Row, Site, change, table, telegram as line_telegram
 from meaning_mistakes import (
     BORDER,
     BOTH,
@@ -41,7 +41,13 @@ from balisekit.present.links_text import is_usual
 from balisekit.rules import checking, links, meaning
 from balisekit.rules.chainage import Jump
 from balisekit.rules.line import Line as LineOfTable
-from balisekit.rules.meaning import e22_temporary_restriction, ends_between, message_profiles, opposite_restrictions
+from balisekit.rules.meaning import (
+    e22_temporary_restriction,
+    ends_between,
+    lacking_infill,
+    message_profiles,
+    opposite_restrictions,
+)
 from balisekit.rules.rule import ALL, Options, Remark, Result, Urgency
 from balisekit.tables import messages as messages_file, plan as plan_file, reader
 
@@ -481,6 +487,34 @@ def test_e15(found: Found) -> None:
         "E15", INFILL, set_in(SITE, GREEN, 12, overlap={"d_startol": 100, "t_ol": 60, "d_ol": 190, "v_releaseol": 126})
     )
     assert one.sentence.startswith("D_OL is 190 m in the infill, and 200 m in packet 12 of Signal 4")
+
+
+def test_e15_of_an_empty_aspect(found: Found) -> None:
+    """Infill says nothing at an aspect at which trains may run. At red that is a design, and at two it may be."""
+
+    def emptied(*aspects: str) -> Change:
+        def empty(rows: List[Row]) -> None:
+            for aspect in aspects:
+                form_of(rows, SITE, aspect)["packets"] = []
+
+        return empty
+
+    (one,) = found("E15", INFILL, emptied(YELLOW))
+    assert one.sentence == (
+        'the aspect "yellow" has no packet 136, which all other aspects have, although V_MAIN is 140 km/h [28] in '
+        'packet 12 of Signal 4 (km 14.500), aspect "yellow", row 20'
+    )
+    assert list(one.rows) == [16] and list(one.aspects) == [YELLOW]
+    assert not found("E15", INFILL, emptied(RED))
+    for aspects, count in (((YELLOW, GREEN), 2), ((RED, YELLOW), 1)):
+        result = found.result("E15", INFILL, emptied(*aspects))
+        assert not result.found and dict(result.not_looked_at) == {lacking_infill.NO_REFERENCE: count}
+
+    def of_the_signal(rows: List[Row]) -> None:
+        form_of(rows, "Signal 4", YELLOW)["packets"] = []
+
+    result = found.result("E15", INFILL, all_of(emptied(YELLOW), of_the_signal))
+    assert not result.found and not result.not_looked_at
 
 
 @pytest.mark.parametrize("g_a, beside, said", [(0, 0, ""), (5, 5, "Q_GDIR"), (0, 5, "G_A"), (5, 0, "G_A")])
@@ -1261,6 +1295,31 @@ def test_e28_of_two_groups(found: Found) -> None:
     assert found.result("E28", line, all_of(reverse[0])).not_looked_at == {}
     (one, other) = found("E28", line, with_packet("Signal 3", FIXED, session(direction=0), revocation(7, 0)))
     assert ", as 1 other packet is, and all other" in one.sentence and one.sentence == other.sentence
+
+
+def test_e28_of_a_group_with_nothing_else(found: Found) -> None:
+    """A group that only orders a session has it for the rare direction. An order of levels is counted."""
+
+    def with_group(*packets: Any, name: str = "Session", number: int = 900) -> Change:
+        site = Site(name, number, 12_200 + number // 10, 1, 1)
+        rows_ = [Row(name, f"{name} {at}", site.place + 3 * at, "", at, line_telegram(site, at, 255)) for at in (0, 1)]
+        rows_[0].form["packets"] = list(packets)
+        return lambda rows: rows.extend(copy.deepcopy(rows_))
+
+    line, wrong = Line(signals=8), with_group(session(direction=0))
+    (one,) = found("E28", line, wrong)
+    assert one.location.group and one.location.group.group.name == "Session" and "in 8 groups" in one.sentence
+    level: Any = {"nid_packet": 41, "q_dir": 0, "q_scale": 1, "d_leveltr": 32_767}
+    order = {**level, "transitions": [{"m_leveltr": 0, "l_ackleveltr": 0}]}
+    second = with_group(session(direction=0), name="Second", number=901)
+    for lane, change_, count in (
+        (Line(signals=7), wrong, 1),
+        (line, with_group(session(direction=0), order), 2),
+        (line, all_of(wrong, second), 2),
+    ):
+        result = found.result("E28", lane, change_)
+        assert not result.found and list(result.not_looked_at.values()) == [count]
+    assert not found("E28", line, with_group(session()))
 
 
 def crossing(distance: int, length: int = 20) -> Any:

@@ -17,8 +17,8 @@ LEAST = 3
 """The fewest cases that show an order."""
 BESIDE = 2000
 """In decimetres: how far signals of neighbouring tracks are apart along them, such as staggered exit signals."""
-STAGGERED = "with two aspects in an order against most groups, whose ends might be at signals beside each other"
-NO_ORDER = "with two aspects in an order against most groups, if too few groups show an order"
+STAGGERED = "two aspects end in another order than at most groups, perhaps at signals beside each other"
+NO_ORDER = "two aspects end in another order than at most groups, which too few groups show"
 """Why the ends of aspects of a group are not compared."""
 Left = Dict[str, Set[int]]
 """The groups that are not compared in full, by the reason."""

@@ -8,6 +8,8 @@ the same name. The signal is the group that the packet 136 names. The rule rests
   compared by the sum of their lengths.
 - The rule also reports a packet 136 that names a group of the same track in rear of the infill, or at the kilometre of
   the infill.
+- The rule also reports an aspect of the infill without a packet 136, if all other aspects of its group have one and the
+  signal has a V_MAIN above 0 at this aspect. Several aspects of this kind are counted as not compared.
 - The rule also reports a packet 136 that names a group which is not in the table. A packet 136 with NID_BG 16,383 is
   not reported.
 - A missing signal gets only a note if it might be a group of which no telegram could be read.
@@ -29,11 +31,11 @@ Signal 4 (km 14.500) has 1,500 m. After: both have 1,500 m.
 When it is a false alarm. The rule assumes that an aspect name means the same at the infill and at its signal. That is
 not so if the names are numbers, or if the infill has the names of a distant signal. It assumes that infill repeats its
 signal. A project might send less in the infill on purpose, with a lower V_MAIN, shorter or merged profiles, or other
-timers. Infill for a signal at danger might also have a V_MAIN above 0 and no length. It assumes that the table has the
-signal. That is not so if the signal is on a branch line outside the table. The rule also assumes that infill and signal
-face the same way, if nothing shows their directions. The kilometres of one track show them, and so does a packet 5 that
-names the signal. A signal on another track might face the other way. A loop between the two groups can mislead the
-rule. {kilometres} {one way}
+timers. Infill for a signal at danger might also have a V_MAIN above 0 and no length. One aspect might have no infill on
+purpose. It assumes that the table has the signal. That is not so if the signal is on a branch line outside the table.
+The rule also assumes that infill and signal face the same way, if nothing shows their directions. The kilometres of one
+track show them, and so does a packet 5 that names the signal. A signal on another track might face the other way. A
+loop between the two groups can mislead the rule. {kilometres} {one way}
 
 Usual cause. The infill was not changed with its signal. Or the infill was copied from the wrong aspect.
 
@@ -55,7 +57,8 @@ from balisekit.rules.line import NOWHERE, Line
 from balisekit.rules.location import NOT_KNOWN, Identity, Location
 from balisekit.rules.meaning.along import Extent, extents_of, lane_of, rear
 from balisekit.rules.meaning.fields import fields_apart
-from balisekit.rules.meaning.infill_signals import COMPARED, are_others, lacks_profiles, signal_of
+from balisekit.rules.meaning.infill_signals import COMPARED, are_others, identity_of, lacks_profiles, signal_of
+from balisekit.rules.meaning.lacking_infill import NO_REFERENCE, lacking_infill
 from balisekit.rules.meaning.words import merged, source
 from balisekit.rules.passages import GroupData, Passage
 from balisekit.rules.rule import Field, Options, Remark, Result, Rule, Urgency
@@ -74,10 +77,8 @@ def find(line: Line, options: Options) -> Result:
     unknown: List[Tuple[Passage, Packet, Identity]] = []
     doubted: Set[int] = set()
     for passage in decoded.passages:
-        reference = passage.reference
-        if reference is not None and passage.group is not None and "nid_bg" in reference.form:
-            country = passage.group.group.identity[0] if passage.group.group.identity else 0
-            identity = reference.form.get("nid_c", country), reference.form["nid_bg"]
+        reference, identity = passage.reference, identity_of(passage)
+        if reference is not None and passage.group is not None and identity is not None:
             target = decoded.by_identity.get(identity)
             if target is not None:
                 signal = signal_of(decoded, passage, target)
@@ -103,6 +104,8 @@ def find(line: Line, options: Options) -> Result:
             values = {"nid_c": Decimal(identity[0]), "nid_bg": Decimal(identity[1])}
             found.append(Remark("E15", passage.at(reference), words, None, values))
     looked_at -= skipped[NO_PACKET]
+    lacking = lacking_infill(decoded)
+    found, skipped[NO_REFERENCE] = [*found, *lacking.found], lacking.left
     result = Result.of_places(merged(found), looked_at, {}, +skipped)
     return result._replace(notes=sorted(notes), doubted=doubted)
 

@@ -83,7 +83,7 @@ RARE = "aspects with a name that fewer than five signals have"
 TOO_MANY = "aspects that lack a packet which at least half of the signals have, as too many others do"
 ORDERS = "aspects whose packet 132 or 137 contradicts V_MAIN, as at several signals"
 VALUES = "aspects with a value of packet 12 or 80 that differs at several signals"
-MAIN = "aspects with a V_MAIN of their own, of a whole signal, of a slow route or of several signals"
+MAIN = "aspects with an unusual V_MAIN, as of a slow signal or route, or of several signals"
 """Why aspects are not compared."""
 
 

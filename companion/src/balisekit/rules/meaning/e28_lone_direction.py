@@ -4,7 +4,9 @@ What it says. A packet is for a direction of its own: at most one other group of
 direction. The rule rests on SUBSET-026, 3.6.3 and 7.3.
 - The rule compares how many groups of a track have packets for each direction. The direction with fewer groups is the
   rare direction, and the other one is the usual direction.
-- Each group with a packet for the rare direction must also have packets for the usual direction.
+- One group with packets for the rare direction only is reported if at least eight other groups have packets for the
+  usual direction. It is not reported if it has a packet 41 or 131. Each other reported group must also have packets for
+  the usual direction.
 - One group with packets for the rare direction is reported if at least four other groups have packets for the usual
   direction only. Two groups with packets for the rare direction are reported if at least eight other groups have
   packets for the usual direction only.
@@ -15,7 +17,8 @@ direction. The rule rests on SUBSET-026, 3.6.3 and 7.3.
 - Two groups are not reported if one of them has a packet 41 or 131 for the rare direction, because trains might leave
   the area there. The packets of both groups are counted as not compared.
 - If the numbers of groups do not allow a remark, the packets for the rare direction are counted as not compared. They
-  are not counted if a group has packets for the rare direction only, because trains then run in both directions.
+  are not counted if three or more groups have packets for the rare direction, and one of them has no others, because
+  trains then run in both directions.
 
 Why it matters. At worst the train gets wrong information, or lacks it. The trains of this track do not get the packet,
 such as an order to open a session or to revoke a restriction.
@@ -39,7 +42,7 @@ How sure. 88 %, by practice and memory of the standard.
 from __future__ import annotations
 
 from decimal import Decimal
-from typing import Dict, Iterator, List, NamedTuple, Sequence, Tuple
+from typing import Dict, Iterator, List, NamedTuple, Optional, Sequence, Tuple
 
 from balisekit.rules.facts import counted, group_words, sender
 from balisekit.rules.line import Line
@@ -59,9 +62,9 @@ from balisekit.rules.telegrams import (
     Packet,
 )
 
-LEAST, MOST, BOTH = 4, 2, 2
-"""For each group that is reported, the fewest others that show the direction of a track; the most groups that are
-reported; and the Q_DIR for both directions."""
+LEAST, TWICE, MOST, BOTH = 4, 2, 2, 2
+"""For each group that is reported, the fewest others that show the direction of a track, and how many times as many if
+it has no packets for that direction; the most groups that are reported; and the Q_DIR for both directions."""
 OTHERS = frozenset({LINKING, *AUTHORITIES, GRADIENTS, SPEEDS, 80, 132, 137})
 """The packets whose direction other rules look at."""
 BORDERS = frozenset({LEVELS, 131})
@@ -69,6 +72,7 @@ BORDERS = frozenset({LEVELS, 131})
 WORDS = {1: "greater", -1: "lower"}
 MANY = "for trains that other packets of more than two groups, or of one in five, are for"
 BORDER = "for the other direction of a border"
+ONLY = "of groups that have no packets for the usual direction of the track"
 """Why packets are not compared."""
 
 
@@ -92,9 +96,9 @@ def find(line: Line, options: Options) -> Result:
     for (track, way), said in lanes.items():
         others = lanes.get((track, -way), ())
         why = _why_not(said, others)
-        left[why] += len(_packets_of(said)) if why else 0
+        left[why or ""] += len(_packets_of(said)) if why else 0
         looked_at += 0 if why else len(said)
-        found += [] if why else _lone(said, others)
+        found += _lone(said, others) if why == "" else []
     return Result(merged(found), looked_at, +left, is_optional=True)
 
 
@@ -114,30 +118,27 @@ def _packets_of(said: Sequence[Said]) -> Sequence[Said]:
     return list({id(each.packet): each for each in said}.values())
 
 
-def _are_few(own: Sequence[Said], others: Sequence[Said]) -> bool:
-    """Whether the groups with packets of one way all have some of the other way too, and others have only these.
+def _why_not(own: Sequence[Said], others: Sequence[Said]) -> Optional[str]:
+    """Why the packets of one way are not reported, or an empty text if they are. None if trains run this way.
 
-    What other rules look at shows that trains run this way.
+    What other rules look at shows that they do.
     """
     groups, many = _groups_of(own), _groups_of(others)
-    is_part = bool(groups) and groups.keys() < many.keys()
-    return is_part and not any(each.packet.number in OTHERS for each in own)
-
-
-def _why_not(own: Sequence[Said], others: Sequence[Said]) -> str:
-    """Why the packets of one way are not compared, although few groups have any, or an empty text."""
-    if not _are_few(own, others):
-        return ""
-    count = len(_groups_of(own))
-    if count > MOST or len(_groups_of(others)) - count < LEAST * count:
+    is_part = groups.keys() <= many.keys()
+    if not 0 < len(groups) < len(many) or not is_part and len(groups) > MOST:
+        return None
+    if any(each.packet.number in OTHERS for each in own):
+        return None
+    is_of_border = any(each.packet.number in BORDERS for each in own)
+    if not is_part:
+        return "" if len(groups) == 1 and len(many) >= TWICE * LEAST and not is_of_border else ONLY
+    if len(groups) > MOST or len(many) - len(groups) < LEAST * len(groups):
         return MANY
-    return BORDER if count > 1 and any(each.packet.number in BORDERS for each in own) else ""
+    return BORDER if len(groups) > 1 and is_of_border else ""
 
 
 def _lone(own: Sequence[Said], others: Sequence[Said]) -> Iterator[Remark]:
-    """The packets of one way, if few groups have any, and these speak to trains of the other way too."""
-    if not _are_few(own, others):
-        return
+    """The packets of one way."""
     many, packets = _groups_of(others), _packets_of(own)
     facts = [counted(group_words(each.group) for each in many.values())]
     facts += [counted(sender(each.passage, each.packet) for each in packets)] if len(packets) > 1 else []

@@ -79,7 +79,7 @@ def _of(kind: str, groups: Sequence[GroupData], names: Sequence[Set[str]]) -> It
 
 
 def _in_two_cases(groups: Sequence[GroupData], names: Sequence[Set[str]]) -> Iterator[Remark]:
-    """The aspects that differ from a more frequent one only in case or blanks: one remark for all their groups."""
+    """The aspects that differ from a more frequent one only in case or blanks: one remark for all of their groups."""
     counts = Counter(name for own in names for name in sorted(own))
     alike: Dict[str, List[str]] = {}
     for name in counts:

@@ -5,11 +5,22 @@ from typing import Optional
 
 from balisekit.etcs.geometry import DIRECTIONS, NOMINAL, REVERSE
 from balisekit.rules.decoded import Decoded
+from balisekit.rules.location import Identity
 from balisekit.rules.passages import GroupData, Passage
 from balisekit.rules.telegrams import GRADIENTS, SPEEDS
 
-COMPARED = (12, 21, 27, 80)
+AUTHORITY = 12
+COMPARED = (AUTHORITY, 21, 27, 80)
 """The packets after a packet 136 that are compared with those of the signal."""
+
+
+def identity_of(passage: Passage) -> Optional[Identity]:
+    """NID_C and NID_BG of the group that a packet 136 names, if it names one."""
+    reference, here = passage.reference, passage.group
+    if reference is None or here is None or "nid_bg" not in reference.form:
+        return None
+    country = here.group.identity[0] if here.group.identity else 0
+    return reference.form.get("nid_c", country), reference.form["nid_bg"]
 
 
 def signal_of(decoded: Decoded, passage: Passage, target: GroupData) -> Optional[Passage]:

@@ -9,7 +9,7 @@ from balisekit.rules.meaning.sent import kmh, speed
 from balisekit.rules.rule import Remark
 from balisekit.tables.names import listed, quoted
 
-NO_MAJORITY = "with an aspect whose V_MAIN is 0 or above 0 against most groups, if too few groups show what it means"
+NO_MAJORITY = "V_MAIN of an aspect is 0, or above 0, unlike at most groups, which are too few"
 """Why the V_MAIN of an aspect of a group is not compared."""
 TWICE, NAMED = 2, 5
 """How many times as many cases are enough if their group contradicts an aspect too, and how many aspects are named."""
