@@ -633,3 +633,47 @@ def test_e8_of_conditions(program: Program, tmp_path: Path, having: Sequence[str
     assert all(
         "lacks packet 68 (track condition) in nominal direction, which 2 other" in each.sentence for each in made
     )
+
+
+def proceeding(signal: int) -> Change:
+    """A signal has one telegram for each balise, which lets trains proceed as green does."""
+
+    def keep_green(rows: List[Row]) -> None:
+        own = telegram(rows, signal, GREEN)
+        own["m_mcount"] = 255
+        rows[:] = [row for row in rows if row.group != f"Signal {signal}" or row.aspect in (FIXED, GREEN)]
+        for row in rows:
+            row.aspect = "" if row.group == f"Signal {signal}" else row.aspect
+
+    return keep_green
+
+
+def test_e8_of_a_signal_that_never_stops_trains(program: Program, tmp_path: Path) -> None:
+    """One signal beside five that have a stop aspect, and neither the first one of the line nor one of an area."""
+    line, path = Line(signals=7), tmp_path / "t.csv"
+    (one,) = found(program, path, "E8", proceeding(3), line=line)
+    assert said([one]) == [
+        (
+            (10, 11),
+            "each aspect lets trains proceed in nominal direction, and 6 of 6 other signals have an aspect that does "
+            "not: nothing stops a train here",
+        )
+    ]
+    level = {"nid_packet": 41, "q_dir": 1, "q_scale": 1, "d_leveltr": 32_767}
+    order = packets_added(3, FIXED, {**level, "transitions": [{"m_leveltr": 2, "l_ackleveltr": 0}]})
+    assert not found(program, path, "E8", order, proceeding(3), line=line)
+    for changes in ([proceeding(1)], [proceeding(3), proceeding(5)]):
+        assert not found(program, path, "E8", *changes, line=line)
+    assert not found(program, path, "E8", proceeding(3), line=Line(signals=5))
+    red = packet_with(3, RED, 12, v_main=10, l_endsection=1500)
+    assert not found(program, path, "E8", red, line=line)  # (E9 reports it)
+
+
+def test_e8_of_a_table_without_a_stop_aspect(run: Run, program: Program, tmp_path: Path) -> None:
+    """A note says so if three signals have none. One signal with a stop aspect silences it."""
+    path = tmp_path / "t.csv"
+    for stopping, count in ((0, 1), (1, 0)):
+        reds = [packet_with(number, RED, 12, v_main=10, l_endsection=100) for number in range(1, 7 - stopping)]
+        _, out, _ = run("check", written(program, path, SHORT, *reds))
+        notes = [each for each in out if "no aspect of 6 signals has V_MAIN 0" in each]
+        assert len(notes) == count

@@ -154,8 +154,8 @@ def _moved(one: Elsewhere) -> Correction:
     )
     if one.agreeing == 1:
         sentence = (
-            f"only one link shows that the kilometre of {name} may be wrong: {one.first} differs by {apart} from it. If "
-            f"D_LINK is right, at km {one.kilometre} it would agree"
+            f"only one link shows that the kilometre of {name} may be wrong: {one.first} differs by {apart} from it. "
+            f"If D_LINK is right, at km {one.kilometre} it would agree"
         )
     cells, values = _cells(one.group, one.metres), {"km": one.kilometre, "metres": f"{one.metres:f}"}
     return Correction(one.group.group, tuple(sorted(cells)), sentence, cells, values=values)
