@@ -655,8 +655,8 @@ def test_e8_of_a_signal_that_never_stops_trains(program: Program, tmp_path: Path
     assert said([one]) == [
         (
             (10, 11),
-            "each aspect lets trains proceed in nominal direction, and 6 of 6 other signals have an aspect that does "
-            "not: nothing stops a train here",
+            "this group always lets trains proceed in nominal direction, and 6 of 6 other signals have an aspect that "
+            "does not: nothing stops a train here",
         )
     ]
     level = {"nid_packet": 41, "q_dir": 1, "q_scale": 1, "d_leveltr": 32_767}
@@ -677,3 +677,42 @@ def test_e8_of_a_table_without_a_stop_aspect(run: Run, program: Program, tmp_pat
         _, out, _ = run("check", written(program, path, SHORT, *reds))
         notes = [each for each in out if "no aspect of 6 signals has V_MAIN 0" in each]
         assert len(notes) == count
+
+
+def ended(signal: int, aspect: str, number: int, farther: int) -> Change:
+    """The end mark of a profile is so many metres farther."""
+
+    def move(rows: List[Row]) -> None:
+        mark = change(rows, f"Signal {signal}", aspect, number)["elements"][-1]
+        mark["d_gradient" if number == 21 else "d_static"] += farther
+
+    return move
+
+
+@pytest.mark.parametrize(
+    "aspect, numbers, farther",
+    [(GREEN, (21,), 300), (GREEN, (27,), 8), (GREEN, (27,), 3), (GREEN, (21, 27), 300), (GREEN, (27,), -100)],
+)
+def test_e4_of_the_end(program: Program, tmp_path: Path, aspect: str, numbers: Sequence[int], farther: int) -> None:
+    """A profile ends elsewhere beside its authority than those of all others. The program reports one too short."""
+    changes = [ended(3, aspect, number, farther) for number in numbers]
+    made = found(program, tmp_path / "t.csv", "E4", *changes)
+    assert [each.location.number for each in made] == [number for number in numbers if farther > 3]
+    for each in made:
+        assert each.sentence == (
+            f"it ends {200 + farther} m beyond the end of the authority, and those of all 5 other signals with such "
+            "authorities end 200 m beyond the end of the authority, such as that of Signal 1 (km 10.000), aspect "
+            '"yellow", row 4'
+        )
+    two = [ended(5, YELLOW, number, 300) for number in (21, 27)]
+    assert not found(program, tmp_path / "t.csv", "E4", ended(3, aspect, 21, 300), ended(3, aspect, 27, 300), *two)
+    assert not found(program, tmp_path / "t.csv", "E4", *changes, line=Line(signals=5))
+
+
+def test_e4_of_an_authority_that_ends_elsewhere(program: Program, tmp_path: Path) -> None:
+    """Both profiles differ since the authority is shorter: other rules report it. One with V_LOA is not compared."""
+    for values in ({"l_endsection": 1300}, {"l_endsection": 1300, "end_speed": 10}):
+        assert not found(program, tmp_path / "t.csv", "E4", packet_with(3, YELLOW, 12, **values))
+    longer = ended(3, YELLOW, 21, 300)
+    assert found(program, tmp_path / "t.csv", "E4", longer)
+    assert not found(program, tmp_path / "t.csv", "E4", longer, packet_with(3, YELLOW, 12, end_speed=10))

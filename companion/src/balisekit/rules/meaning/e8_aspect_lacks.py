@@ -16,11 +16,11 @@ rule rests on SUBSET-026, 3.8, and reports these cases:
   packet 136.
 - Of three or more stop aspects of a group in one direction, only one has no packet 132. The table must have a stop
   aspect of the same name with a packet 132.
-- A signal has no stop aspect: each of its aspects has a packet 12 with V_MAIN above 0. It must be the only such signal
-  of the table, and at least five others must have an aspect that does not let trains proceed. The first signal of a
-  track is not reported, nor one with a packet 41 (level transition order). E9 reports an aspect whose name stops trains
-  at three other signals. If no signal with several aspects has a stop aspect, a note says so.
-- Except for packet 137 and a missing stop aspect, only groups with three or more aspects are compared.
+- A group without aspects has a packet 12 with V_MAIN above 0, so that it always lets trains proceed. It must be the
+  only such group of the table, and at least five signals must have an aspect that does not let trains proceed. The
+  first group of a track is not reported, nor one with a packet 41 (level transition order). If no signal with several
+  aspects has an aspect that stops trains, a note says so.
+- Except for packet 137 and groups without aspects, only groups with three or more aspects are compared.
 - Aspects with a refused telegram do not count. Their group is compared only for packet 137.
 
 Why it matters. At worst the train gets wrong information, or lacks information that it needs. Without profiles the

@@ -1,17 +1,17 @@
 """Signals none of whose aspects stops trains: one beside others that have a stop aspect, or all of a table. For E8."""
 from __future__ import annotations
 
-from collections import Counter
 from decimal import Decimal
-from typing import AbstractSet, Dict, Iterator, List, NamedTuple, Sequence
+from typing import Dict, Iterator, List, NamedTuple, Sequence
 
 from balisekit.rules.decoded import Decoded
 from balisekit.rules.facts import counted, sender
 from balisekit.rules.meaning.along import extents_of, lane_of
-from balisekit.rules.meaning.siblings import AUTHORITY, LEAST
+from balisekit.rules.meaning.siblings import AUTHORITY
 from balisekit.rules.passages import GroupData, Passage
 from balisekit.rules.rule import Remark
 from balisekit.rules.telegrams import LEVELS, Packet
+from balisekit.tables.grouping import EVERY
 
 OTHERS, FEWEST = 5, 3
 """How many other signals must have a stop aspect, and of how many signals without any a note speaks."""
@@ -30,6 +30,11 @@ class Signal(NamedTuple):
         return [each for each in self.passages if any(packet.form["v_main"] for packet in _authorities(each))]
 
     @property
+    def is_named(self) -> bool:
+        """Whether its aspects have names: then E9 compares the V_MAIN of their namesakes."""
+        return any(each.name not in ("", EVERY) for each in self.data.group.group.aspects)
+
+    @property
     def stops(self) -> bool:
         """Whether an aspect does not let trains proceed."""
         return len(self.proceeding) < len(self.data.group.group.aspects)
@@ -45,7 +50,7 @@ class Stopless(NamedTuple):
 def signals_without_stop(decoded: Decoded) -> Stopless:
     """Looks at the groups that let trains proceed before a packet 136."""
     signals = [signal for data in decoded.speaking if not data.group.unread for signal in _of_group(data)]
-    without = [each for each in signals if not each.stops]
+    without = [each for each in signals if not each.stops and not each.is_named]
     several = [each for each in signals if len(each.data.group.group.aspects) > 1]
     notes = []
     if several and len(several) >= FEWEST and not any(each.stops for each in several):
@@ -53,7 +58,7 @@ def signals_without_stop(decoded: Decoded) -> Stopless:
             f"E8: no aspect of {len(several)} signals has V_MAIN 0: each of their aspects lets trains proceed, "
             "also the one that should stop them"
         )
-    stopping = len(signals) - len(without)
+    stopping = sum(each.stops for each in signals)
     found = list(_found(decoded, without[0], signals)) if len(without) == 1 and stopping >= OTHERS else []
     return Stopless(found, notes)
 
@@ -73,30 +78,19 @@ def _authorities(passage: Passage) -> Sequence[Packet]:
 
 
 def _found(decoded: Decoded, signal: Signal, signals: Sequence[Signal]) -> Iterator[Remark]:
-    """A remark on the signal, unless it is at the begin of a line or area, or another rule knows its stop aspect."""
-    first, own = signal.proceeding[0], {each.aspect for each in signal.passages}
-    if own & _stop_names(signals) or first.of(LEVELS) or not _has_others_in_rear(decoded, first):
+    """A remark on the signal, unless it is at the begin of a line or area."""
+    first = signal.proceeding[0]
+    if first.of(LEVELS) or not _has_others_in_rear(decoded, first):
         return
     count = sum(each.stops for each in signals)
     words = (
-        f"each aspect lets trains proceed in {first.direction} direction, and {count} of {len(signals) - 1} other "
-        "signals have an aspect that does not: nothing stops a train here"
+        f"this group always lets trains proceed in {first.direction} direction, and {count} of {len(signals) - 1} "
+        "other signals have an aspect that does not: nothing stops a train here"
     )
     facts = [counted(sender(each) for other in signals if other.stops for each in other.proceeding)]
     rows = tuple(sorted({row.number for row in signal.data.group.group.rows()}))
     values = {"signals": Decimal(len(signals) - 1), "with_stop_aspect": Decimal(count)}
     yield Remark("E8", signal.data.location(), words, values=values, rows=rows, facts=facts)
-
-
-def _stop_names(signals: Sequence[Signal]) -> AbstractSet[str]:
-    """The names of the aspects that stop trains at three signals or more: E9 reports the V_MAIN of their namesakes."""
-    names = Counter(
-        each.aspect
-        for signal in signals
-        for each in signal.passages
-        if len(signal.passages) > 1 and any(not packet.form["v_main"] for packet in _authorities(each))
-    )
-    return {name for name, count in names.items() if count >= LEAST and name}
 
 
 def _has_others_in_rear(decoded: Decoded, passage: Passage) -> bool:
