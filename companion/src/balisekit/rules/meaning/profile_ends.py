@@ -5,14 +5,14 @@ from collections import Counter
 from typing import Dict, Iterator, List, NamedTuple, Optional, Sequence, Set, Tuple
 
 from balisekit.etcs.variables import metres
-from balisekit.rules.decoded import Decoded
+from balisekit.rules.decoded import Decoded, tolerance_of_lengths
 from balisekit.rules.facts import counted, sender
 from balisekit.rules.meaning.along import ends_of
-from balisekit.rules.meaning.sent import Fault, distance, remark, tolerance
+from balisekit.rules.meaning.sent import Fault, distance, remark
 from balisekit.rules.meaning.words import source
 from balisekit.rules.passages import Passage
 from balisekit.rules.rule import Options, Remark
-from balisekit.rules.telegrams import GRADIENTS, SPEEDS, Packet
+from balisekit.rules.telegrams import GRADIENTS, SPEEDS, Packet, allowance
 
 AUTHORITY, MODES, LEAST = 12, 80, 5
 """NID_PACKET of authorities and mode profiles, and how many other signals must agree."""
@@ -27,10 +27,15 @@ class Case(NamedTuple):
 
     passage: Passage
     profile: Packet
+    authority: Packet
     margins: Tuple[int, int]
     """How many decimetres it ends beyond each of PLACES."""
-    allowed: int
-    """By how much that may differ by rounding."""
+
+    @property
+    def rounding(self) -> int:
+        """By how many decimetres that may differ by rounding."""
+        lengths = allowance(self.authority, self.authority.lengths)
+        return allowance(self.profile, len(self.profile.stretches)) + lengths
 
     @property
     def signal(self) -> Tuple[int, str]:
@@ -51,10 +56,11 @@ class Unlike(NamedTuple):
 def profile_ends(decoded: Decoded, options: Options) -> Iterator[Remark]:
     """Compares each profile with the authority of its message, as all other signals of the table have it."""
     by_key: Dict[Key, List[Case]] = {}
-    for passage in decoded.passages:
-        for key, case in _cases(options, passage):
-            by_key.setdefault(key, []).append(case)
-    found = [unlike for some in by_key.values() for unlike in _unlike(some)]
+    for data in decoded.speaking:
+        for passage in data.passages:
+            for key, case in _cases(passage):
+                by_key.setdefault(key, []).append(case)
+    found = [unlike for some in by_key.values() for unlike in _unlike(options, some)]
     wrong = Counter(id(case.passage) for unlike in found for case in unlike.odd)
     confirmed = _confirmed(decoded, options) if wrong else set()
     for unlike in found:
@@ -64,31 +70,36 @@ def profile_ends(decoded: Decoded, options: Options) -> Iterator[Remark]:
                 yield _remark(case, unlike)
 
 
-def _cases(options: Options, passage: Passage) -> Iterator[Tuple[Key, Case]]:
+def _cases(passage: Passage) -> Iterator[Tuple[Key, Case]]:
     """The profiles of a message with one authority, which stops trains at its end."""
-    authorities = [packet for packet in passage.of(AUTHORITY) if packet.form["v_main"]]
-    if len(authorities) != 1 or passage.message is not None or authorities[0].form["end_speed"]:
+    by_number: Dict[int, List[Packet]] = {}
+    for packet in passage.said:
+        by_number.setdefault(packet.number, []).append(packet)
+    authorities = [packet for packet in by_number.get(AUTHORITY, ()) if packet.form["v_main"]]
+    if len(authorities) != 1 or authorities[0].form["end_speed"]:
         return
     (packet,) = authorities
-    authority = packet.authority
+    form, end = packet.form, packet.end
+    lengths = [form[part][key] for part, key in (("overlap", "d_ol"), ("danger_point", "d_dp")) if part in form]
+    supervised = end + (lengths[0] * packet.unit if lengths else 0)
     for number in (GRADIENTS, SPEEDS):
-        profiles = passage.of(number)
-        end: Optional[int] = profiles[0].stretches[-1].end if len(profiles) == 1 and profiles[0].stretches else None
-        if end is not None:
-            parts = (profiles[0], len(profiles[0].stretches)), (packet, packet.lengths)
-            margins = end - authority.end, end - authority.supervised
-            key = number, "overlap" in packet.form, "danger_point" in packet.form, bool(passage.of(MODES))
-            yield key, Case(passage, profiles[0], margins, tolerance(options, *parts))
+        profiles = by_number.get(number, ())
+        mark = profiles[0].stretches[-1].end if len(profiles) == 1 and profiles[0].stretches else None
+        if mark is not None:
+            key = number, "overlap" in form, "danger_point" in form, MODES in by_number
+            yield key, Case(passage, profiles[0], packet, (mark - end, mark - supervised))
 
 
-def _unlike(some: Sequence[Case]) -> Iterator[Unlike]:
+def _unlike(options: Options, some: Sequence[Case]) -> Iterator[Unlike]:
     """The profiles of the one signal that does not end where all others do."""
+    if any(len({each.margins[place] for each in some}) == 1 for place in range(len(PLACES))):
+        return
     best: Optional[Unlike] = None
-    allowed = max(each.allowed for each in some)
+    allowed = tolerance_of_lengths(options.tolerance_of_places, 2 * max(each.rounding for each in some))
     for place in range(len(PLACES)):
         counts = Counter(each.margins[place] for each in some)
         usual = counts.most_common(1)[0][0]
-        odd = [each for each in some if abs(each.margins[place] - usual) > each.allowed + allowed]
+        odd = [each for each in some if abs(each.margins[place] - usual) > allowed]
         signals = {each.signal for each in odd}
         others = [each for each in some if each.signal not in signals]
         if best is None or len(odd) < len(best.odd):
