@@ -62,32 +62,29 @@ def profile_ends(decoded: Decoded, options: Options) -> Iterator[Remark]:
                 by_key.setdefault(key, []).append(case)
     found = [unlike for some in by_key.values() for unlike in _unlike(options, some)]
     wrong = Counter(id(case.passage) for unlike in found for case in unlike.odd)
-    confirmed = _confirmed(decoded, options) if wrong else set()
-    for unlike in found:
-        for case in unlike.odd:
-            is_covering = case.margins[1] >= 0  # (else the program reports it)
-            if is_covering and (wrong[id(case.passage)] == 1 or id(case.passage) in confirmed):
-                yield _remark(case, unlike)
+    covering = [(case, unlike) for unlike in found for case in unlike.odd if case.margins[1] >= 0]
+    confirmed = _confirmed(decoded) if covering else set()
+    for case, unlike in covering:  # (the program reports the others)
+        if wrong[id(case.passage)] == 1 or id(case.passage) in confirmed:
+            yield _remark(case, unlike)
 
 
 def _cases(passage: Passage) -> Iterator[Tuple[Key, Case]]:
     """The profiles of a message with one authority, which stops trains at its end."""
-    by_number: Dict[int, List[Packet]] = {}
-    for packet in passage.said:
-        by_number.setdefault(packet.number, []).append(packet)
-    authorities = [packet for packet in by_number.get(AUTHORITY, ()) if packet.form["v_main"]]
-    if len(authorities) != 1 or authorities[0].form["end_speed"]:
+    said = passage.said
+    numbers = [packet.number for packet in said]
+    packet = said[numbers.index(AUTHORITY)] if numbers.count(AUTHORITY) == 1 else None
+    if packet is None or not packet.form["v_main"] or packet.form["end_speed"]:
         return
-    (packet,) = authorities
     form, end = packet.form, packet.end
     lengths = [form[part][key] for part, key in (("overlap", "d_ol"), ("danger_point", "d_dp")) if part in form]
     supervised = end + (lengths[0] * packet.unit if lengths else 0)
     for number in (GRADIENTS, SPEEDS):
-        profiles = by_number.get(number, ())
-        mark = profiles[0].stretches[-1].end if len(profiles) == 1 and profiles[0].stretches else None
-        if mark is not None:
-            key = number, "overlap" in form, "danger_point" in form, MODES in by_number
-            yield key, Case(passage, profiles[0], packet, (mark - end, mark - supervised))
+        profile = said[numbers.index(number)] if numbers.count(number) == 1 else None
+        mark = profile.stretches[-1].end if profile and profile.stretches else None
+        if profile is not None and mark is not None:
+            key = number, "overlap" in form, "danger_point" in form, MODES in numbers
+            yield key, Case(passage, profile, packet, (mark - end, mark - supervised))
 
 
 def _unlike(options: Options, some: Sequence[Case]) -> Iterator[Unlike]:
@@ -108,7 +105,7 @@ def _unlike(options: Options, some: Sequence[Case]) -> Iterator[Unlike]:
         yield best
 
 
-def _confirmed(decoded: Decoded, options: Options) -> Set[int]:
+def _confirmed(decoded: Decoded) -> Set[int]:
     """The passages whose authority ends where that of another group ends: then the profiles are wrong, and not it."""
     ends = [end for end in ends_of(decoded) if end.packet.number == AUTHORITY]
     places: Dict[Tuple[str, int], Set[int]] = {}
