@@ -74,12 +74,12 @@ def find(line: Line, options: Options) -> Result:
     groups = [data for data in several if not data.group.unread]
     unread = len(several) - len(groups)
     found = [remark for data in groups for remark in (*_siblings(data), *_conditions(line, options, data))]
-    stops, stopless = stopping(line.decoded), signals_without_stop(line.decoded)
+    stops, (stopless, notes) = stopping(line.decoded), signals_without_stop(line.decoded)
     return Result(
-        [*found, *_without_stop(line), *_without_danger(stops), *stopless.found],
+        [*found, *_without_stop(line), *_without_danger(stops), *stopless],
         len(groups),
         {REFUSED: unread} if unread else {},
-        stopless.notes,
+        notes,
         is_optional=True,
     )
 

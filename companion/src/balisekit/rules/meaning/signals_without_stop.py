@@ -2,7 +2,7 @@
 from __future__ import annotations
 
 from decimal import Decimal
-from typing import Dict, Iterator, List, NamedTuple, Sequence
+from typing import Dict, Iterator, List, NamedTuple, Sequence, Tuple
 
 from balisekit.rules.decoded import Decoded
 from balisekit.rules.facts import counted, sender
@@ -40,15 +40,11 @@ class Signal(NamedTuple):
         return len(self.proceeding) < len(self.data.group.group.aspects)
 
 
-class Stopless(NamedTuple):
-    """The signal without a stop aspect that others contradict, and a note if no signal of the table has one."""
+def signals_without_stop(decoded: Decoded) -> Tuple[Sequence[Remark], Sequence[str]]:
+    """Looks at the groups that let trains proceed before a packet 136.
 
-    found: Sequence[Remark]
-    notes: Sequence[str]
-
-
-def signals_without_stop(decoded: Decoded) -> Stopless:
-    """Looks at the groups that let trains proceed before a packet 136."""
+    A note says if no signal of the table has a stop aspect.
+    """
     signals = [signal for data in decoded.speaking if not data.group.unread for signal in _of_group(data)]
     without = [each for each in signals if not each.stops and not each.is_named]
     several = [each for each in signals if len(each.data.group.group.aspects) > 1]
@@ -60,7 +56,7 @@ def signals_without_stop(decoded: Decoded) -> Stopless:
         )
     stopping = sum(each.stops for each in signals)
     found = list(_found(decoded, without[0], signals)) if len(without) == 1 and stopping >= OTHERS else []
-    return Stopless(found, notes)
+    return found, notes
 
 
 def _of_group(data: GroupData) -> Iterator[Signal]:
