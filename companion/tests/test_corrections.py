@@ -394,3 +394,15 @@ def test_a_kilometre_that_one_link_contradicts(run: Run, program: Program, tmp_p
         "only one link shows that the kilometre of Signal 2 may be wrong: the first link of a packet 5 in Signal 1 "
         "(row 2) differs by 270 m from it. If D_LINK is right, at km 11.500 it would agree"
     )
+
+
+def test_profiles_that_are_too_long(run: Run, program: Program, tmp_path: Path) -> None:
+    """What they say beyond the usual end contradicts another aspect: with the usual end all is well."""
+
+    def longer(rows: List[Row]) -> None:
+        for number, key in ((21, "d_gradient"), (27, "d_static")):
+            meaning_line.change(rows, "Signal 5", "yellow", number)["elements"][-1][key] += 1500
+
+    (entry,) = _entries_of(run, written(program, tmp_path / "t.csv", Line(), longer))
+    assert (entry["rule"], entry["rows"], len(entry["folded"])) == ("E4", [20], 4)
+    assert entry["sentence"].endswith("; with that end all would agree")

@@ -1437,6 +1437,49 @@ def test_e29_counts_what_follows_a_packet_136(found: Found) -> None:
     assert (result.found, result.looked_at, result.not_looked_at) == ([], 1, {"behind a packet 136": 1})
 
 
+def position(group: int, metres: int, offset: int = 0) -> Any:
+    """A packet 79 with one position, from a group of the same country."""
+    return raw(79, f"010{group:014b}{offset:015b}1{metres:024b}{0:05b}")
+
+
+@pytest.mark.parametrize(
+    "metres, origin, count, words",
+    [
+        (13_000, 0, 5, ""),
+        (13_001, 0, 5, ""),
+        (
+            14_000,
+            0,
+            5,
+            "M_POSITION of the first position, from Signal 3 (km 13.000), is 14000 m: 13000 m would agree with",
+        ),
+        (
+            13_000,
+            500,
+            5,
+            "is 13000 m: 13500 m would agree with the kilometres as 4 others do, such as that of Signal 1",
+        ),
+        (14_000, 0, 4, ""),
+    ],
+)
+def test_e14_of_positions(found: Found, metres: int, origin: int, count: int, words: str) -> None:
+    """Four positions count from one origin. A fifth one differs: three others are too few."""
+    own = {number: 8500 + 1500 * number + origin for number in range(1, count + 1)}
+    own[3] = metres
+    made = found("E14", SHORT, all_of(*(with_packet(f"Signal {n}", FIXED, position(n, at)) for n, at in own.items())))
+    assert len(made) == bool(words) and all(words in each.sentence and rows_named(each) == (10, 2) for each in made)
+
+
+def test_e14_of_positions_ahead(found: Found) -> None:
+    """D_POSOFF counts along the way. Two groups that differ show nothing."""
+    ahead = [with_packet(f"Signal {n}", FIXED, position(n, 8600 + 1500 * n, 100)) for n in (1, 2, 4, 5)]
+    assert not found("E14", SHORT, all_of(*ahead, with_packet("Signal 3", FIXED, position(3, 13_100, 100))))
+    (one,) = found("E14", SHORT, all_of(*ahead, with_packet("Signal 3", FIXED, position(3, 13_100))))
+    assert one.values == {"m_position_m": Decimal(13_100), "by_kilometres_m": Decimal(13_000)}
+    two = [with_packet(f"Signal {n}", FIXED, position(n, 20_000)) for n in (3, 6)]
+    assert not found("E14", SHORT, all_of(*ahead, *two))
+
+
 def repositioning(section: int, announced: int = 16_383) -> Change:
     """A group 500 m in rear of signal 4 with a packet 16, which signal 3 announces."""
 

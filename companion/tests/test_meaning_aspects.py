@@ -724,3 +724,86 @@ def test_e8_of_conditions(program: Program, tmp_path: Path, having: Sequence[str
     assert all(
         "lacks packet 68 (track condition) in nominal direction, which 2 other" in each.sentence for each in made
     )
+
+
+def proceeding(signal: int) -> Change:
+    """A signal has one telegram for each balise, which lets trains proceed as green does."""
+
+    def keep_green(rows: List[Row]) -> None:
+        own = telegram(rows, signal, GREEN)
+        own["m_mcount"] = 255
+        rows[:] = [row for row in rows if row.group != f"Signal {signal}" or row.aspect in (FIXED, GREEN)]
+        for row in rows:
+            row.aspect = "" if row.group == f"Signal {signal}" else row.aspect
+
+    return keep_green
+
+
+def test_e8_of_a_signal_that_never_stops_trains(program: Program, tmp_path: Path) -> None:
+    """One signal beside five that have a stop aspect, and neither the first one of the line nor one of an area."""
+    line, path = Line(signals=7), tmp_path / "t.csv"
+    (one,) = found(program, path, "E8", proceeding(3), line=line)
+    assert said([one]) == [
+        (
+            (10, 11),
+            "this group always lets trains proceed in nominal direction, and 6 of 6 other signals have an aspect that "
+            "does not: nothing stops a train here",
+        )
+    ]
+    level = {"nid_packet": 41, "q_dir": 1, "q_scale": 1, "d_leveltr": 32_767}
+    order = packets_added(3, FIXED, {**level, "transitions": [{"m_leveltr": 2, "l_ackleveltr": 0}]})
+    assert not found(program, path, "E8", order, proceeding(3), line=line)
+    for changes in ([proceeding(1)], [proceeding(3), proceeding(5)]):
+        assert not found(program, path, "E8", *changes, line=line)
+    assert not found(program, path, "E8", proceeding(3), line=Line(signals=5))
+    red = packet_with(3, RED, 12, v_main=10, l_endsection=1500)
+    assert not found(program, path, "E8", red, line=line)  # (E9 reports it)
+
+
+def test_e8_of_a_table_without_a_stop_aspect(run: Run, program: Program, tmp_path: Path) -> None:
+    """A note says so if three signals have none. One signal with a stop aspect silences it."""
+    path = tmp_path / "t.csv"
+    for stopping, count in ((0, 1), (1, 0)):
+        reds = [packet_with(number, RED, 12, v_main=10, l_endsection=100) for number in range(1, 7 - stopping)]
+        _, out, _ = run("check", written(program, path, SHORT, *reds))
+        notes = [each for each in out if "no aspect of 6 signals has V_MAIN 0" in each]
+        assert len(notes) == count
+
+
+def ended(signal: int, aspect: str, number: int, farther: int) -> Change:
+    """The end mark of a profile is so many metres farther."""
+
+    def move(rows: List[Row]) -> None:
+        mark = change(rows, f"Signal {signal}", aspect, number)["elements"][-1]
+        mark["d_gradient" if number == 21 else "d_static"] += farther
+
+    return move
+
+
+@pytest.mark.parametrize(
+    "aspect, numbers, farther",
+    [(GREEN, (21,), 300), (GREEN, (27,), 8), (GREEN, (27,), 3), (GREEN, (21, 27), 300), (GREEN, (27,), -100)],
+)
+def test_e4_of_the_end(program: Program, tmp_path: Path, aspect: str, numbers: Sequence[int], farther: int) -> None:
+    """A profile ends elsewhere beside its authority than those of all others. The program reports one too short."""
+    changes = [ended(3, aspect, number, farther) for number in numbers]
+    made = found(program, tmp_path / "t.csv", "E4", *changes)
+    assert [each.location.number for each in made] == [number for number in numbers if farther > 3]
+    for each in made:
+        assert each.sentence == (
+            f"it ends {200 + farther} m beyond the end of the authority, and those of all 5 other signals with such "
+            "authorities end 200 m beyond the end of the authority, such as that of Signal 1 (km 10.000), aspect "
+            '"yellow", row 4'
+        )
+    two = [ended(5, YELLOW, number, 300) for number in (21, 27)]
+    assert not found(program, tmp_path / "t.csv", "E4", ended(3, aspect, 21, 300), ended(3, aspect, 27, 300), *two)
+    assert not found(program, tmp_path / "t.csv", "E4", *changes, line=Line(signals=5))
+
+
+def test_e4_of_an_authority_that_ends_elsewhere(program: Program, tmp_path: Path) -> None:
+    """Both profiles differ since the authority is shorter: other rules report it. One with V_LOA is not compared."""
+    for values in ({"l_endsection": 1300}, {"l_endsection": 1300, "end_speed": 10}):
+        assert not found(program, tmp_path / "t.csv", "E4", packet_with(3, YELLOW, 12, **values))
+    longer = ended(3, YELLOW, 21, 300)
+    assert found(program, tmp_path / "t.csv", "E4", longer)
+    assert not found(program, tmp_path / "t.csv", "E4", longer, packet_with(3, YELLOW, 12, end_speed=10))

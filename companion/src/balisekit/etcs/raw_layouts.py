@@ -25,7 +25,10 @@ from balisekit.expressions import expression
 
 DATA = "raw_layouts.json"
 CERTAIN = 97
-"""From how many per cent on a layout is certain. No remark rests on another one, but one can make E5 silent."""
+"""From how many per cent on a layout is certain. No remark rests on another one, but one can make E5 silent.
+
+E14 compares positions by such a layout if four of them agree with the kilometres, which shows that it is right.
+"""
 IMPLIED = ("Q_NEWCOUNTRY", "N_ITER")
 """Variables without a key, as in the program's JSON: other keys, and lengths of lists, give their values."""
 NUMBERS = expression(r"(\d+)(?: to (\d+))?(?: (.+))?")

@@ -10,6 +10,7 @@ from typing import Sequence
 from balisekit.rules.corrections import (
     balises,
     counters,
+    ends,
     headers,
     identities,
     kilometres,
@@ -29,6 +30,7 @@ SUGGESTIONS: Sequence[Stage] = (
             counters.suggest,
             telegrams.suggest,
             identities.suggest,
+            ends.suggest,
             packets.suggest,
             links.suggest,
         )

@@ -9,6 +9,10 @@ rests on SUBSET-026, 3.4.4 and 7.5.1.
   is allowed for each further one.
 - If the links of two or more groups lead over one stretch and all differ by the same amount, one remark asks whether
   the kilometres jump there.
+- The rule also compares M_POSITION of packets 79 (geographical position information) with the kilometre of their group
+  and D_POSOFF. Positions may all differ from the kilometres by the same amount. One group is reported if its positions
+  differ otherwise, at least three other groups agree, and there are at least four right positions for each wrong one.
+  The proved program does not decode packet 79: balisekit decodes it by a layout of its own.
 - If many links of a track differ, the kilometres might follow another axis than the track. One note then counts these
   links instead of remarks. Many are at least five, and more than a fifth of the links of the track. Links over a jump
   do not count.
@@ -20,13 +24,14 @@ Example. Before (`examples/meaning/mistakes/E14.csv`): Signal 5 is 1,504 m from 
 kilometres, and Q_LOCACC is 5 m. After: D_LINK is 1,500 m.
 
 When it is a false alarm. {kilometres} {missing} The rule assumes that D_LINK is rounded to the nearest unit. A tool
-that always rounds to one side breaks this assumption. {leaving}
+that always rounds to one side breaks this assumption. {leaving} M_POSITION might count from another origin at one
+group, such as where two lines meet.
 
 Usual cause. A distance was counted from or to a balise that is not the first one of its group. Or a group was moved a
 few metres. Or the kilometre of the table is wrong.
 
-How to correct it. Correct D_LINK or the kilometre. Give jumps of the kilometres by `--jumps` or in the track plan.
-State a greater `--tolerance` if the kilometres follow another axis.
+How to correct it. Correct D_LINK, M_POSITION or the kilometre. Give jumps of the kilometres by `--jumps` or in the
+track plan. State a greater `--tolerance` if the kilometres follow another axis.
 
 How to accept it. Name the source of the distance, and why the kilometres of the table differ from it.
 
@@ -43,6 +48,7 @@ from balisekit.rules.line import Line
 from balisekit.rules.location import ANOTHER_TRACK, Location
 from balisekit.rules.link_steps import Jump, Step, jumps_of, steps_of
 from balisekit.rules.links import l2_distance
+from balisekit.rules.meaning.positions import unlike_positions
 from balisekit.rules.meaning.words import balises_of
 from balisekit.rules.rule import Options, Remark, Result, Rule, Urgency
 from balisekit.rules.telegrams import rounding
@@ -74,7 +80,9 @@ def find(line: Line, options: Options) -> Result:
     for step in within:
         if step.here.track not in many:
             found += _remarks(line, step, least)
-    return Result(found, sum(len(each.chains) for each in steps), skipped, notes, usual=frozenset({ANOTHER_TRACK}))
+    positions, count = unlike_positions(line.decoded, options)
+    looked_at = sum(len(each.chains) for each in steps) + count
+    return Result([*found, *positions], looked_at, skipped, notes, usual=frozenset({ANOTHER_TRACK}))
 
 
 def _explains(jump: Jump, step: Step, tolerance: int) -> bool:

@@ -95,9 +95,8 @@ def find(line: Line, options: Options) -> Result:
             left[FAR] += is_alone
             looked_at += 0 if is_alone else len(part)
             found += [each for each in _compare(decoded, options, part) if _packet_of(each) not in named]
-    opposite = opposite_restrictions(decoded, options)
-    left[OPPOSITE] = opposite.left
-    found += [*opposite.found, *without_number(decoded, options)]
+    opposite, left[OPPOSITE] = opposite_restrictions(decoded, options)
+    found += [*opposite, *without_number(decoded, options)]
     found += [*without_effect(decoded, options.greatest_speed // 5), *without_restriction(decoded)]
     looked_at = max(looked_at - described.left, 0)
     return Result.of_places(merged(found), looked_at, passed_over(decoded, _is_restriction), +left)

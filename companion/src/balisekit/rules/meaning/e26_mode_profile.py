@@ -8,8 +8,8 @@ first five items are the faults that it reports.
   within `--tolerance` (default 1 m) and rounding. Later modes are not compared with the end.
 - A V_MAMODE for on sight or shunting is above 100 km/h, and is not the national value.
 - The L_MAMODE of a mode is 0.
-- The D_MAMODE of the first mode is another one at one signal than at all others, of which there are at least three, and
-  which all have the same one. Only modes of one M_MAMODE are compared.
+- At one signal the first mode has another D_MAMODE than at all others. There must be at least three others, and all of
+  them must have the same D_MAMODE. Only modes of one M_MAMODE are compared.
 - A first mode that begins at the end is not reported if it is shunting, or if V_LOA is above 0. The same holds if the
   authority has no length, as at a stop aspect.
 - A packet 80 after a packet 136 is compared only with the authorities after this packet 136.

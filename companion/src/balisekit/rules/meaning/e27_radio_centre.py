@@ -99,15 +99,15 @@ class Call(NamedTuple):
 def find(line: Line, options: Options) -> Result:
     """Compares the numbers of the whole table, and the borders of each track."""
     calls = [Call(*each) for each in sent(line.decoded, SESSION, TRANSITION) if "nid_radio" in each[1].form]
-    of_borders = borders(line.decoded, options)
+    of_borders, apart = borders(line.decoded, options)
     found = [
         *_wrong_digits(calls),
         *_unlike(calls, lambda each: each.centre, lambda each: each.digits, _number_words),
         *_unlike(calls, lambda each: each.digits, lambda each: each.centre, _centre_words),
-        *of_borders.found,
+        *of_borders,
     ]
     lacks = passed_over(line.decoded, lambda each: each.number == TRANSITION)
-    left = Counter(call.left for call in calls if call.left) + Counter(of_borders.left) + lacks
+    left = Counter(call.left for call in calls if call.left) + Counter(apart) + lacks
     left[NOT_DECODED] = sum("nid_radio" not in packet.form for _, packet in sent(line.decoded, SESSION, TRANSITION))
     return Result(merged(found), len(calls) - sum(bool(call.left) for call in calls), +left, is_optional=True)
 

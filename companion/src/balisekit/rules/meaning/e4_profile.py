@@ -9,6 +9,11 @@ place. The rule rests on SUBSET-026, 3.11 and 7.4.2, and reports these cases:
   have the same speed, Q_FRONT and train categories.
 - An element has the same train category twice.
 - A V_DIFF by cant deficiency is below V_STATIC, or falls while NC_CDDIFF rises.
+- The end mark of one signal is farther beyond the authority of its message, or less far, than that of all others. At
+  least five others must agree, with the end of authority or with the supervised location. Only authorities are compared
+  that all have an overlap, a danger point and a packet 80, or have none. Authorities with V_LOA above 0 do not count.
+  If both profiles of a message differ, another group must have an authority with the same end. F11 and F13 report a
+  profile that is too short for its authority.
 - A repeated element is not reported if a single distance of at most 32,767 units cannot cover both elements.
 
 Why it matters. At worst the train gets wrong information. Only one of two elements at one place can hold. The train
@@ -22,7 +27,8 @@ is 100 m greater.
 When it is a false alarm. The rule assumes that trains run over the complete profile. Beyond a buffer stop or an end of
 authority, and at a stop aspect, a profile may have 0 km/h or no length. The rule assumes that trains use V_STATIC. If
 each train category has its own V_DIFF, V_STATIC may be 0, or may be for a greater cant deficiency. It assumes that more
-cant deficiency never means less speed. That is not so if tilting trains have a restriction of their own. Finally, it
+cant deficiency never means less speed. That is not so if tilting trains have a restriction of their own. It assumes
+that a project ends all profiles alike. One profile might be longer, for example up to a buffer stop. Finally, it
 assumes that each element and category is needed. A tool might begin an element at each boundary of its data, or fill
 the rest of a packet with end marks.
 
@@ -43,7 +49,9 @@ from typing import Iterator, List, Optional, Sequence, Tuple
 from balisekit.etcs.geometry import ELEMENT_KEYS
 from balisekit.etcs.variables import CANT, Form, Values
 from balisekit.rules.line import Line
+from balisekit.rules.meaning.profile_ends import profile_ends
 from balisekit.rules.meaning.sent import Fault, kmh, of_packets, speed
+from balisekit.rules.meaning.words import merged
 from balisekit.rules.rule import Options, Result, Rule, Urgency
 from balisekit.rules.telegrams import GRADIENTS, SPEEDS, Packet
 from balisekit.tables.names import ordinal
@@ -55,8 +63,12 @@ LONGEST = 32_767
 
 
 def find(line: Line, options: Options) -> Result:
-    """Looks at each packet 21 and 27."""
-    return of_packets("E4", line, (GRADIENTS, SPEEDS), _faults)
+    """Looks at each packet 21 and 27, and then at where it ends."""
+    result = of_packets("E4", line, (GRADIENTS, SPEEDS), _faults)
+    named = {(each.location.row, each.location.packet) for each in result.found}
+    ends = (each for each in profile_ends(line.decoded, options) if each.location.row)
+    unlike = [each for each in merged(ends) if (each.location.row, each.location.packet) not in named]
+    return result._replace(found=[*result.found, *unlike])
 
 
 def _faults(packet: Packet) -> List[Fault]:

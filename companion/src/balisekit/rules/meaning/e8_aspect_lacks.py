@@ -16,7 +16,11 @@ rule rests on SUBSET-026, 3.8, and reports these cases:
   packet 136.
 - Of three or more stop aspects of a group in one direction, only one has no packet 132. The table must have a stop
   aspect of the same name with a packet 132.
-- Except for packet 137, only groups with three or more aspects are compared.
+- A group without aspects has a packet 12 with V_MAIN above 0, so that it always lets trains proceed. It must be the
+  only such group of the table, and at least five signals must have an aspect that does not let trains proceed. The
+  first group of a track is not reported, nor one with a packet 41 (level transition order). If no signal with several
+  aspects has an aspect that stops trains, a note says so.
+- Except for packet 137 and groups without aspects, only groups with three or more aspects are compared.
 - Aspects with a refused telegram do not count. Their group is compared only for packet 137.
 
 Why it matters. At worst the train gets wrong information, or lacks information that it needs. Without profiles the
@@ -31,8 +35,9 @@ When it is a false alarm. The rule assumes that the aspects of a group need the 
 aspect for calling-on or for another route might need fewer packets. An aspect that only stops trains in the other
 direction might also need fewer packets. A track condition might be announced at one aspect only on purpose, if the next
 signal sends it in time. The rule also assumes that all stop aspects of the table, in both directions, stop trains in
-staff responsible mode too. At some signals these trains are allowed to pass. Finally, it assumes that stop aspects of
-one name treat shunting alike. That is not so if shunting is allowed at some of these signals.
+staff responsible mode too. At some signals these trains are allowed to pass. It assumes that stop aspects of one name
+treat shunting alike. That is not so if shunting is allowed at some of these signals. Finally, it assumes that a group
+with an authority is a signal that can stop trains. A marker or a distant signal might only let them proceed.
 
 Usual cause. A packet was lost, or its Q_DIR is wrong. Or the aspect was added later and is not complete.
 
@@ -53,6 +58,7 @@ from balisekit.rules.line import Line
 from balisekit.rules.location import Location
 from balisekit.rules.meaning.lacking_conditions import lacking_conditions
 from balisekit.rules.meaning.siblings import SIBLINGS, Moving, Said, lacking_in, said_of, turned_in
+from balisekit.rules.meaning.signals_without_stop import signals_without_stop
 from balisekit.rules.meaning.stops import packet_of_stop, stopping, stops_of, stops_without_order
 from balisekit.rules.passages import GroupData, Passage
 from balisekit.rules.rule import REFUSED, Options, Remark, Result, Rule, Urgency
@@ -68,11 +74,12 @@ def find(line: Line, options: Options) -> Result:
     groups = [data for data in several if not data.group.unread]
     unread = len(several) - len(groups)
     found = [remark for data in groups for remark in (*_siblings(data), *_conditions(line, options, data))]
-    stops = stopping(line.decoded)
+    stops, (stopless, notes) = stopping(line.decoded), signals_without_stop(line.decoded)
     return Result(
-        [*found, *_without_stop(line), *_without_danger(stops)],
+        [*found, *_without_stop(line), *_without_danger(stops), *stopless],
         len(groups),
         {REFUSED: unread} if unread else {},
+        notes,
         is_optional=True,
     )
 

@@ -38,22 +38,18 @@ class Pair(NamedTuple):
         return max(low, begin) < min(high, end)
 
 
-class Opposite(NamedTuple):
-    """What is found, and how many restrictions are not compared because projects number directions by themselves."""
+def opposite_restrictions(decoded: Decoded, options: Options) -> Tuple[Sequence[Remark], int]:
+    """Compares the restrictions with one number for trains of both directions of a track.
 
-    found: Sequence[Remark]
-    left: int
-
-
-def opposite_restrictions(decoded: Decoded, options: Options) -> Opposite:
-    """Compares the restrictions with one number for trains of both directions of a track."""
+    The number counts those that are not compared, because a project may number each direction by itself.
+    """
     pairs = list(_pairs(decoded, options))
     differing = [pair for pair in pairs if not pair.agree(decoded, options)]
     agreeing = len(pairs) - len(differing)
     wrong = differing if agreeing and agreeing >= OFTEN * len(differing) else []
     wrong = wrong or (differing if len(differing) == 1 and differing[0].is_overlapping else [])
     found = [_of_pair(decoded, *pair) for pair in wrong]
-    return Opposite(found, 0 if wrong else 2 * len(differing))
+    return found, 0 if wrong else 2 * len(differing)
 
 
 def _stretch(one: Restriction) -> Tuple[int, int]:

@@ -60,15 +60,11 @@ class Border(NamedTuple):
         return self.is_now and is_beyond and self.centre == other.centre and (other.is_now or count > 1)
 
 
-class Borders(NamedTuple):
-    """What is found, and how many packets are compared only with those near them, by the reason."""
+def borders(decoded: Decoded, options: Options) -> Tuple[Sequence[Remark], Mapping[str, int]]:
+    """The packets 131 that differ from the most frequent one for their border.
 
-    found: Sequence[Remark]
-    left: Mapping[str, int]
-
-
-def borders(decoded: Decoded, options: Options) -> Borders:
-    """The packets 131 that differ from the most frequent one for their border."""
+    The second part counts those that are compared only with packets near them, by the reason.
+    """
     found: List[Remark] = []
     left: Counter[str] = Counter()
     for lane, own in _by_lane(decoded).items():
@@ -82,7 +78,7 @@ def borders(decoded: Decoded, options: Options) -> Borders:
         staying = [each for each in some if not reasons[id(each.packet)]]
         for same in _of_one_centre(staying, _named(decoded, lane) if len(staying) > 1 else ()):
             found += _compare(decoded, options, same, _usual(decoded, options, same))
-    return Borders(found, left)
+    return found, left
 
 
 @once

@@ -6,7 +6,7 @@ from decimal import Decimal
 from typing import Any, Dict, Iterator, List, NamedTuple, Sequence, Set, Tuple
 
 from balisekit.etcs.variables import Around, Values, metres, value_words
-from balisekit.rules.decoded import Decoded, tolerance_of_lengths
+from balisekit.rules.decoded import Decoded, once, tolerance_of_lengths
 from balisekit.rules.meaning.along import Lane, lane_of, parts
 from balisekit.rules.meaning.revocations import RESTRICTION
 from balisekit.rules.meaning.words import at_place, source
@@ -69,6 +69,7 @@ class Restriction(NamedTuple):
         return is_there and abs(self.length - other.length) <= tolerance_of_lengths(stated, *units)
 
 
+@once
 def restrictions_of(decoded: Decoded) -> Dict[Lane, List[Restriction]]:
     """The restrictions of each track and way, by their places: each packet once."""
     found: Dict[Lane, Dict[Tuple[int, str], Restriction]] = {}

@@ -1,6 +1,7 @@
 """The one signal of a table that has no packet 5, although trains meet a linked group within its authority. For E17."""
 from __future__ import annotations
 
+from decimal import Decimal
 from typing import AbstractSet, Dict, Iterator, Mapping, NamedTuple, Sequence, Tuple
 
 from balisekit.rules.decoded import Decoded
@@ -53,7 +54,8 @@ def signal_without_links(
     others = (each for each in signals.values() if each.is_linking)
     facts = [group_words(signal.ahead), counted(sender(each.end.passage, each.end.packet) for each in others)]
     rows = sorted({row.number for row in data.group.group.rows()})
-    yield Remark("E17", data.location(), words, rows=tuple(rows), facts=facts)
+    values = {"others_with_packet_5": Decimal(count)}
+    yield Remark("E17", data.location(), words, values=values, rows=tuple(rows), facts=facts)
 
 
 def _signals(decoded: Decoded, lanes: Mapping[Lane, Reach], ends: Sequence[End]) -> Dict[Key, Signal]:

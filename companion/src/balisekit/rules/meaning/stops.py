@@ -3,7 +3,7 @@ from __future__ import annotations
 
 from typing import Collection, Dict, List, NamedTuple, Sequence, Tuple
 
-from balisekit.rules.decoded import Decoded
+from balisekit.rules.decoded import Decoded, once
 from balisekit.rules.meaning.siblings import AUTHORITY
 from balisekit.rules.passages import Passage
 from balisekit.rules.telegrams import Packet
@@ -27,6 +27,7 @@ class Stops(NamedTuple):
         return {(id(each.group), each.aspect) for each in self.lacking}
 
 
+@once
 def stopping(decoded: Decoded) -> Sequence[Passage]:
     """The passages of groups with a stop aspect."""
     return [passage for data in decoded.speaking for passage in data.passages if stops_of(passage)]
@@ -42,6 +43,7 @@ def packet_of_stop(passage: Passage) -> Tuple[int, str, int]:
     return id(passage.group), passage.aspect, id(stops_of(passage)[0])
 
 
+@once
 def stops_without_order(decoded: Decoded) -> Stops:
     """The stop aspects, and those without a packet 137, if at least four of five have it with "stop"."""
     stops: Dict[Tuple[int, str, int], List[Passage]] = {}
