@@ -12,7 +12,20 @@ from decimal import Decimal
 from functools import partial
 from itertools import islice
 from posixpath import normpath
-from typing import Any, Callable, Dict, Iterable, Iterator, List, NamedTuple, Optional, Pattern, Sequence, Tuple
+from typing import (
+    AbstractSet,
+    Any,
+    Callable,
+    Dict,
+    Iterable,
+    Iterator,
+    List,
+    NamedTuple,
+    Optional,
+    Pattern,
+    Sequence,
+    Tuple,
+)
 from xml.etree.ElementTree import Element, ParseError, fromstring, iterparse
 
 from balisekit.errors import KitError, TableError, needed
@@ -51,6 +64,7 @@ FILLED = "merged ranges, whose empty cells are read with the value of the first 
 BESIDE = (
     "digits as telegrams have in comments, text boxes and other parts that are not read: {count}, the first in {first}"
 )
+STRUCK = "rows with struck-through cells, which are read as all others: {count}, the first {first}"
 NOT_SEARCHED = (
     "macros, embedded objects and other parts that are not searched for telegrams: {count}, the first {first}"
 )
@@ -75,6 +89,19 @@ class _Formulas(NamedTuple):
     """Those without a stored value. If they are recalculated, these are also 0 and an empty text."""
     recalculated: List[Place]
     """Those with another stored value."""
+
+
+class _Struck(NamedTuple):
+    """The rows of a sheet that have struck-through texts or numbers."""
+
+    styles: AbstractSet[str]
+    """The numbers of the formats of cells whose font is struck through."""
+    rows: List[int]
+
+    def look_at(self, row: Element, number: int) -> None:
+        """Takes a row into account."""
+        if self.styles and any(cell.get("s") in self.styles and len(cell) for cell in row):
+            self.rows.append(number)
 
 
 def read(content: bytes, name: Optional[str], headings: Headings = Headings(), fill_merged: bool = False) -> Sheet:
@@ -104,7 +131,8 @@ def read(content: bytes, name: Optional[str], headings: Headings = Headings(), f
         _look_at_names("sheet", [each.title for each in all_sheets])
         sheet, note = _chosen(book, name, headings, fill_merged)
         merged = _merged(sheet)
-        rows, areas = _cells(_rows(sheet, formulas)), _areas(merged)
+        struck = _Struck(_struck_styles(book), [])
+        rows, areas = _cells(_rows(sheet, formulas, struck)), _areas(merged)
         found: Dict[str, Found] = {}
         beside = Beside([], [])
         if headings.has_telegrams:
@@ -113,6 +141,7 @@ def read(content: bytes, name: Optional[str], headings: Headings = Headings(), f
             beside = beside_cells(content, names, part_of_strings, _look_at_parts)
             beside.telegrams.extend([part_of_strings] * shared.telegrams_of_no_cell())
         notes = (note, *_notes(beside.telegrams, BESIDE), *_notes(beside.not_searched, NOT_SEARCHED))
+        notes += tuple(_notes([f"row {number}" for number in struck.rows], STRUCK))
         notes += tuple(_notes(merged, FILLED if fill_merged else MERGED if headings.has_telegrams else UNMERGE))
         others = tuple(other.title for other in all_sheets if other is not sheet)
         how = areas, fill_merged, found, name is not None
@@ -253,10 +282,18 @@ def _recalculates(workbook: bytes) -> bool:
     return stated.get("fullCalcOnLoad") in ("1", "true") or stated.get("calcCompleted") in ("0", "false")
 
 
-def _rows(sheet: Any, formulas: _Formulas) -> Iterator[List[Any]]:
+def _struck_styles(book: Any) -> AbstractSet[str]:
+    """The numbers of the formats of cells whose font is struck through."""
+    fonts = [bool(font.strike) for font in book._fonts]
+    return {
+        str(number) for number, style in enumerate(book._cell_styles) if any(fonts[style.fontId : style.fontId + 1])
+    }
+
+
+def _rows(sheet: Any, formulas: _Formulas, struck: _Struck = _Struck(frozenset(), [])) -> Iterator[List[Any]]:
     """The values of each row of a sheet, also of rows that it skips. TableError is raised for what openpyxl raises.
 
-    `formulas` gets the cells whose values may not be those of their formulas.
+    `formulas` gets the cells whose values may not be those of their formulas, and `struck` the struck-through rows.
     """
     number = 0
     try:
@@ -267,6 +304,7 @@ def _rows(sheet: Any, formulas: _Formulas) -> Iterator[List[Any]]:
                 why = f"it follows row {before} in the workbook, which is damaged: save it again"
                 raise TableError(why, row=number)
             yield from ([] for _ in range(before + 1, number))
+            struck.look_at(row, number)
             yield _values(row, number, parse_cell, formulas)
     except Exception as error:
         raise _unreadable(error, number) from error
