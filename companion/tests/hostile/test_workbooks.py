@@ -746,3 +746,20 @@ def test_a_chart_sheet_without_a_chart(tmp_path: Path, with_cells: bool) -> None
         assert [row.telegram for row in tables.read(str(path)).rows] == [ALONE]
     else:
         assert refusal(path) == "the workbook has no sheet with cells"
+
+
+@pytest.mark.parametrize("column", [1, 2])
+def test_rows_that_are_struck_through(run: Run, tmp_path: Path, column: int) -> None:
+    """Their telegrams are judged, and a line says so: an engineer may have struck out what no longer holds."""
+    openpyxl = pytest.importorskip("openpyxl")
+    book = openpyxl.Workbook()
+    for cells in (("group", "telegram", "remark"), ("A", ALONE, "x"), ("B", OTHER, "y")):
+        book.active.append(cells)
+    path = tmp_path / "line.xlsx"
+    book.save(path)
+    assert not any("struck" in line for line in run("check", path)[1])
+    book.active.cell(3, column).font = openpyxl.styles.Font(strike=True)
+    book.active.cell(9, 4).font = openpyxl.styles.Font(strike=True)
+    book.save(path)
+    lines = [line for line in run("check", path)[1] if "struck" in line]
+    assert lines == ["note: rows with struck-through cells, which are read as all others: 1, the first row 3"], lines

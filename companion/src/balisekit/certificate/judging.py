@@ -186,10 +186,11 @@ def _place(entry: Entry) -> Tuple[Any, ...]:
 
 
 def _hints(outcome: Outcome) -> Iterator[str]:
-    """The notes of an answer, and its lines `look:`."""
+    """The notes of an answer, its lines `look:`, and why entries are at fault that would else accept something."""
     yield from outcome.checked.table.notes
     for part in outcome.parts:
         yield from part.applied.notes if part.applied else ()
         yield from (f"{rule.name} has compared nothing" for rule in part.empty)
     yield from remarks(outcome.checked.table)
-    yield from (why for _, why in outcome.judged.faults) if outcome.judged else ()
+    judged = outcome.judged
+    yield from (why for entry, why in judged.faults if not entry.faults(judged.day)) if judged else ()

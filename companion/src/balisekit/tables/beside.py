@@ -8,6 +8,7 @@ from typing import Dict, Iterable, Iterator, List, Mapping, NamedTuple, Sequence
 from balisekit.errors import TableError, TableErrors
 from balisekit.expressions import expression
 from balisekit.tables.account import Account, NotJudged, elsewhere, of_digits, of_formulas
+from balisekit.tables.checksum_columns import are_checksums
 from balisekit.tables.cells import GREATEST_NAME, LINE_END, NEEDED, Sheet, digits, kind_and_text
 from balisekit.tables.headings import KILOMETRE, compared, shown
 from balisekit.tables.unread_digits import (
@@ -90,6 +91,8 @@ def unread(sheet: Sheet, place: int, begin: int, places: Mapping[str, int], skip
             rest[at] = ["" if cell in hits else cell for cell in cells] if hits else cells
     if faults:
         raise TableErrors(sorted(faults, key=lambda fault: fault.row or 0))
+    for at in [at for at, in found.possible if are_checksums(sheet.rows[begin:], at, places["telegram"])]:
+        del found.possible[(at,)]
     shared = _shared(rest, begin)
     for columns, rows in (*shared.items(), *_below(rest, begin)):
         found.possible.setdefault(columns, {}).update(rows)

@@ -12,7 +12,20 @@ from decimal import Decimal
 from functools import partial
 from itertools import islice
 from posixpath import normpath
-from typing import Any, Callable, Dict, Iterable, Iterator, List, NamedTuple, Optional, Pattern, Sequence, Tuple
+from typing import (
+    AbstractSet,
+    Any,
+    Callable,
+    Dict,
+    Iterable,
+    Iterator,
+    List,
+    NamedTuple,
+    Optional,
+    Pattern,
+    Sequence,
+    Tuple,
+)
 from xml.etree.ElementTree import Element, ParseError, fromstring, iterparse
 
 from balisekit.errors import KitError, TableError, needed
@@ -51,6 +64,7 @@ FILLED = "merged ranges, whose empty cells are read with the value of the first 
 BESIDE = (
     "digits as telegrams have in comments, text boxes and other parts that are not read: {count}, the first in {first}"
 )
+STRUCK = "rows with struck-through cells, which are read as all others: {count}, the first {first}"
 NOT_SEARCHED = (
     "macros, embedded objects and other parts that are not searched for telegrams: {count}, the first {first}"
 )
@@ -77,6 +91,19 @@ class _Formulas(NamedTuple):
     """Those with another stored value."""
 
 
+class _Struck(NamedTuple):
+    """The rows of a sheet that have struck-through texts or numbers."""
+
+    styles: AbstractSet[str]
+    """The numbers of the formats of cells whose font is struck through."""
+    rows: List[int]
+
+    def look_at(self, row: Element, number: int) -> None:
+        """Takes a row into account."""
+        if self.styles and any(cell.get("s") in self.styles and len(cell) for cell in row):
+            self.rows.append(number)
+
+
 def read(content: bytes, name: Optional[str], headings: Headings = Headings(), fill_merged: bool = False) -> Sheet:
     """The cells of the sheet of this name, else of the one that has the needed headings."""
     with _opened(content) as book:
@@ -89,7 +116,7 @@ def read(content: bytes, name: Optional[str], headings: Headings = Headings(), f
             names = [each._worksheet_path for each in book.workbook.worksheets]
             beside = beside_cells(content, names, book.part_of_strings, _look_at_parts)
             beside.telegrams.extend([book.part_of_strings] * book.strings.telegrams_of_no_cell())
-        notes = (note, *_notes(beside.telegrams, BESIDE), *_notes(beside.not_searched, NOT_SEARCHED))
+        notes = (note, *_notes(beside.telegrams, BESIDE), *_notes(beside.not_searched, NOT_SEARCHED), *made.notes)
         notes += tuple(_notes(_merged(sheet), FILLED if fill_merged else MERGED if headings.has_telegrams else UNMERGE))
         others = tuple(title for title in book.titles if title != sheet.title)
         made = made._replace(notes=notes, others=others, is_filled=fill_merged)
@@ -147,10 +174,11 @@ def _opened(content: bytes) -> Iterator[_Book]:
 
 def _sheet(book: _Book, sheet: Any) -> Sheet:
     """The cells of one sheet."""
-    formulas = _Formulas(book.recalculates, [], [])
+    formulas, struck = _Formulas(book.recalculates, [], []), _Struck(_struck_styles(book.workbook), [])
     areas = _areas(_merged(sheet))
-    rows = _cells(_rows(sheet, formulas))
-    made = Sheet("xlsx", "", rows, (), sheet.title, merged=areas)
+    rows = _cells(_rows(sheet, formulas, struck))
+    notes = tuple(_notes([f"row {number}" for number in struck.rows], STRUCK))
+    made = Sheet("xlsx", "", rows, notes, sheet.title, merged=areas)
     return made._replace(not_calculated=formulas.not_calculated, recalculated=formulas.recalculated)
 
 
@@ -288,10 +316,18 @@ def _recalculates(workbook: bytes) -> bool:
     return stated.get("fullCalcOnLoad") in ("1", "true") or stated.get("calcCompleted") in ("0", "false")
 
 
-def _rows(sheet: Any, formulas: _Formulas) -> Iterator[List[Any]]:
+def _struck_styles(book: Any) -> AbstractSet[str]:
+    """The numbers of the formats of cells whose font is struck through."""
+    fonts = [bool(font.strike) for font in book._fonts]
+    return {
+        str(number) for number, style in enumerate(book._cell_styles) if any(fonts[style.fontId : style.fontId + 1])
+    }
+
+
+def _rows(sheet: Any, formulas: _Formulas, struck: _Struck = _Struck(frozenset(), [])) -> Iterator[List[Any]]:
     """The values of each row of a sheet, also of rows that it skips. TableError is raised for what openpyxl raises.
 
-    `formulas` gets the cells whose values may not be those of their formulas.
+    `formulas` gets the cells whose values may not be those of their formulas, and `struck` the struck-through rows.
     """
     number = 0
     try:
@@ -302,6 +338,7 @@ def _rows(sheet: Any, formulas: _Formulas) -> Iterator[List[Any]]:
                 why = f"it follows row {before} in the workbook, which is damaged: save it again"
                 raise TableError(why, row=number)
             yield from ([] for _ in range(before + 1, number))
+            struck.look_at(row, number)
             yield _values(row, number, parse_cell, formulas)
     except Exception as error:
         raise _unreadable(error, number) from error

@@ -20,6 +20,10 @@ SAME = 60
 """By how many decimetres two places may differ that links lead to, for one group: Q_LOCACC is 5 m, mostly."""
 
 
+AT_ONE_PLACE = 10
+"""How near the first balises of two groups are never, in decimetres."""
+
+
 class Lead(NamedTuple):
     """Where a link leads, seen from the group at its other end."""
 
@@ -70,7 +74,14 @@ def suggest(evidence: Evidence) -> Iterator[Correction]:
         yield from [_exchange(one, other, {}, telegrams)] if telegrams else ()
         yield _exchange(one, other, {**_cells(one.group, one.metres), **_cells(other.group, other.metres)}, {})
     for each in sorted(_elsewhere(evidence, leads), key=lambda each: (-each.agreeing / each.links, -each.agreeing)):
-        yield _moved(each)
+        yield from () if _is_taken(evidence, each) else [_moved(each)]
+
+
+def _is_taken(evidence: Evidence, one: Elsewhere) -> bool:
+    """Whether another group is where links have this one: then the links name the wrong group, or lead too far."""
+    own = one.group
+    near = evidence.line.decoded.between(own.track, one.place - AT_ONE_PLACE, one.place + AT_ONE_PLACE)
+    return any(data.group is not own for data in near)
 
 
 def exchanged(evidence: Evidence, some: Sequence[Row], others: Sequence[Row]) -> Mapping[int, Form]:

@@ -14,6 +14,7 @@ from balisekit.tables.names import ordinal, rows_words
 
 DIRECTIONS = {0: "the reverse direction", 1: "the nominal direction", 2: "both directions"}
 """By Q_DIR."""
+BOTH = 2
 INFILL = 136
 """What precedes infill."""
 
@@ -73,11 +74,27 @@ def _of_directions(evidence: Evidence, row: int) -> Iterator[Correction]:
                 yield _with_direction(evidence, row, place, other)
     elif len(counts) == 1 and 2 not in counts and len(directions) > 1:
         (own,) = counts
+        if not _may_be_turned(evidence, row, 1 - own):
+            return
         sent: Sequence[Any] = form["packets"]
         packets = [{**packet, "q_dir": 1 - own} if "q_dir" in packet else packet for packet in sent]
         sentence = f"all packets of the telegram are for {DIRECTIONS[own]}: for {DIRECTIONS[1 - own]} they would agree"
         forms = {row: with_values(form, packets=packets)}
         yield Correction(group, (row,), sentence, forms=forms, values={"Q_DIR": str(own)})
+
+
+def _may_be_turned(evidence: Evidence, row: int, wanted: int) -> bool:
+    """Whether a telegram may be meant for the other direction.
+
+    Aspects that agree with each other may be wrong together. So one that stops trains is turned only if another balise
+    of its group shows the direction: else the trains that it stops would pass at danger.
+    """
+    group = group_of(evidence, row)
+    if all(packet.get("v_main") != 0 for packet in evidence.forms[row]["packets"]):
+        return True
+    others = (each.number for each in group.each_row if group.places[each.number] != group.places[row])
+    said = {packet.get("q_dir", BOTH) for each in others for packet in evidence.forms[each]["packets"]}
+    return said - {BOTH} == {wanted}
 
 
 def _with_direction(evidence: Evidence, row: int, place: int, wanted: int) -> Correction:
