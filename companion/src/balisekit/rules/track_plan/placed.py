@@ -11,11 +11,13 @@ from itertools import takewhile
 from typing import Dict, Iterable, Iterator, Mapping, NamedTuple, Optional, Sequence, Set, Tuple
 
 from balisekit.rules.chainage import Chainage
+from balisekit.rules.decoded import Decoded, once
 from balisekit.rules.line import Line
 from balisekit.rules.location import BEHIND_POINT
 from balisekit.rules.passages import Passage
 from balisekit.rules.rule import Options, Remark, Result, Urgency
 from balisekit.rules.telegrams import Packet
+from balisekit.rules.track_plan.confirmed import Confirmed, Path
 from balisekit.tables.names import clean, kilometre, rows_words
 from balisekit.tables.plan import Lane, Plan, PlanRow, rows_named
 
@@ -55,6 +57,12 @@ class Saying(NamedTuple):
     packet: Packet
 
 
+@once
+def bits_known(decoded: Decoded) -> Dict[int, Mapping[Path, int]]:
+    """The bits of the variables of packets that some rule has needed, by the ids of the forms of these packets."""
+    return {}
+
+
 class PlacedPlan:
     """A plan beside the decoded data of a table."""
 
@@ -67,6 +75,8 @@ class PlacedPlan:
         self._limits: Dict[Passage, Optional[int]] = {}
         self._spots: Dict[Lane, Sequence[Spot]] = {}
         self._lost: Dict[Lane, Sequence[int]] = {}
+        self.confirmed = Confirmed(bits_known(self.decoded))
+        """What is compared with the plan, and how it comes out."""
 
     def parts(self, kind: str, track: str, way: int) -> Sequence[PlanStretch]:
         """The speeds or gradients for trains of one way of a track, in the order of the kilometres."""
@@ -167,7 +177,8 @@ class PlacedPlan:
         looked_at = counts.pop("", 0)
         if not self.decoded.along and not counts and kinds not in (["aspect"], ["group"]):
             counts[NO_PLACE] = sum(len(self.plan.of_kind(kind)) for kind in kinds)
-        return Result(found, looked_at, counts, [*self._notes(kinds), *notes], has_others and not has_own)
+        made = Result(found, looked_at, counts, [*self._notes(kinds), *notes], has_others and not has_own)
+        return made._replace(confirmed=self.confirmed)
 
     def _notes(self, kinds: Sequence[str]) -> Iterator[str]:
         """The rows of these kinds that no rule can compare."""

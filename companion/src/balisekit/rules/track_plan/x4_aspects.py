@@ -34,14 +34,16 @@ from __future__ import annotations
 
 from collections import Counter
 from decimal import Decimal
-from typing import Dict, Iterator, List, NamedTuple, Optional, Set
+from typing import Dict, Iterator, List, Mapping, NamedTuple, Optional, Sequence, Set
 
 from balisekit.rules.decoded import Decoded
 from balisekit.rules.line import Line
 from balisekit.rules.passages import GroupData, Passage
+from balisekit.rules.track_plan.confirmed import Path
 from balisekit.rules.track_plan.placed import NO_PLACE, SAYS_NOTHING, PlacedPlan, Saying, cells_of, plan_words, remark
 from balisekit.rules.rule import Options, Remark, Result, Rule, Urgency
 from balisekit.rules.telegrams import Packet, allowance
+from balisekit.rules.track_plan.x3_ends import lengths_of
 from balisekit.tables.plan import WAY_WORDS, PlanRow, aspect_name
 from balisekit.tables.plan_values import LENGTHS, STEP, TIMES, Terms, term_words
 
@@ -50,6 +52,19 @@ FIELDS = {"v": "V_MAIN", "end": "the end of authority", "overlap": "the overlap"
 FIELDS.update(danger="the danger point", loa="V_LOA", loa_time="T_LOA", end_time="T_ENDTIMER", overlap_time="T_OL")
 FIELDS.update(end_start="D_ENDTIMERSTARTLOC", overlap_start="D_STARTOL")
 NO_TIME_OUT = 1023
+VARIABLES: Mapping[str, Sequence[Path]] = {
+    "v": [("v_main",)],
+    "overlap": [("overlap", "d_ol")],
+    "release": [("overlap", "v_releaseol"), ("danger_point", "v_releasedp")],
+    "danger": [("danger_point", "d_dp")],
+    "loa": [("end_speed",)],
+    "loa_time": [("end_timeout",)],
+    "end_time": [("end_timer", "t_endtimer")],
+    "end_start": [("end_timer", "d_endtimerstartloc")],
+    "overlap_time": [("overlap", "t_ol")],
+    "overlap_start": [("overlap", "d_startol")],
+}
+"""The variables of a packet 12 that a key states. The end is the sum of several."""
 
 
 class Site(NamedTuple):
@@ -72,11 +87,15 @@ def find(line: Line, options: Options) -> Result:
         fitting = [row for row in rows if row.way in (0, passage.way)]
         matched.update(row.number for row in (fitting if passage.way else rows))
         for packet in own:
-            counts["" if fitting else NO_PLACE if rows and passage.way is None else SAYS_NOTHING] += 1
-            found += [each for row in fitting for each in _compare(Saying(passage, packet), row, options)]
+            why = "" if fitting else NO_PLACE if rows and passage.way is None else SAYS_NOTHING
+            placed.confirmed.pass_over(packet, why)
+            counts[why] += 1
+            found += [each for row in fitting for each in _compare(placed, Saying(passage, packet), row, options)]
     sites = _sites(line.decoded)
     left = [row for rows in placed.plan.aspects.values() for row in rows if row.number not in matched]
-    found += [_lacking(sites[row.name], row) for row in left if row.name in sites and sites[row.name].is_read]
+    lacking = [row for row in left if row.name in sites and sites[row.name].is_read]
+    placed.confirmed.uncovered.update(row.number for row in lacking)
+    found += [_lacking(sites[row.name], row) for row in lacking]
     return placed.result(["aspect"], found, counts)
 
 
@@ -119,12 +138,16 @@ def _sites(decoded: Decoded) -> Dict[str, Site]:
     }
 
 
-def _compare(saying: Saying, row: PlanRow, options: Options) -> Iterator[Remark]:
+def _compare(placed: PlacedPlan, saying: Saying, row: PlanRow, options: Options) -> Iterator[Remark]:
     """One remark on all values that differ."""
     packet, said = saying.packet, all_terms_of(saying.packet)
     more = int(options.tolerance * 10)
     allowed = {**dict.fromkeys(LENGTHS, more + allowance(packet)), "end": more + allowance(packet, packet.lengths)}
     differ = [key for key, value in row.terms.items() if not _is_alike(said.get(key), value, allowed.get(key, 0))]
+    variables = {**VARIABLES, "end": lengths_of(packet)}
+    same = [path for key in row.terms if key not in differ for path in variables[key]]
+    placed.confirmed.confirm([row], packet, same)
+    placed.confirmed.contradict([row] if differ else [], packet, [path for key in differ for path in variables[key]])
     if differ:
         texts = [
             f"{FIELDS[key]} is {term_words(key, said.get(key))}, and {term_words(key, row.terms[key])}"
