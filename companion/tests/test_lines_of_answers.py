@@ -122,4 +122,19 @@ def test_each_line_is_in_each_output(
     lost = {(output, line) for output in OUTPUTS for line in in_words if not _is_placed(line, output, texts, form)}
     assert lost == set()
     other = {Kind.NOT_APPLIED} if kilometres else {Kind.COMPARED, Kind.NOT_COMPARED, Kind.NOTE}
-    assert {line.kind for line in in_words} | other == set(Kind)
+    assert {line.kind for line in in_words} | other == set(Kind) - {Kind.DESIGN}
+
+
+def test_the_line_of_a_design_is_in_each_output(
+    run: Run, table: Write, tmp_path: Path, monkeypatch: pytest.MonkeyPatch, said: List[AnswerLine]
+) -> None:
+    pytest.importorskip("jinja2")
+    monkeypatch.chdir(tmp_path)
+    table(*_line(True)[:-2], name="t.csv")
+    table("kind,km,value", "speed,1.000,40", name="d.csv")
+    outputs = [word for name in OUTPUTS if name != "html" for word in (f"--{name}", f"out.{name}")]
+    run("check", "t.csv", "--design", "d.csv", *outputs)
+    (line,) = {line for line in said if line.kind is Kind.DESIGN}
+    run("report", "t.csv", "--design", "d.csv", "--html", "out.html")
+    texts, form = _texts(tmp_path), json.loads(Path("out.json").read_text("utf-8"))
+    assert [output for output in OUTPUTS if not _is_placed(line, output, texts, form)] == []

@@ -1163,9 +1163,9 @@ def test_report(run: Run, tmp_path: Path) -> None:
 def test_the_example_of_the_page() -> None:
     """track-plan.md shows the last lines of the example's answer."""
     page = (TOP / "docs" / "track-plan.md").read_text("utf-8")
-    (block,) = re.findall(r"```console\n\$ \./balisekit (check [^|]*) \| tail -n 5\n(.*?)```", page, re.DOTALL)
+    (block,) = re.findall(r"```console\n\$ \./balisekit (check [^|]*) \| tail -n 6\n(.*?)```", page, re.DOTALL)
     answer = plan_example.run(*block[0].split())
-    assert answer.endswith(f"\n{block[1]}") and block[1].count("\n") == 5
+    assert answer.endswith(f"\n{block[1]}") and block[1].count("\n") == 6
 
 
 def test_pages(run: Run) -> None:

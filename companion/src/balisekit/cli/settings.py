@@ -30,6 +30,7 @@ JUMPS = "a CSV file with km, km_after and track: the places at which the kilomet
 DESIGN = (
     "a file of the line's design, for the rules X: a workbook with a sheet for each kind, or a CSV; can be repeated"
 )
+CONFIRMED = "the least share of the variables that the design has to confirm: below it the answer is INCOMPLETE"
 PLAN = "a CSV file that describes the track: a part of the design, as those of --design are"
 RULES = "rules E or added ones to apply too, with their parts that are off by default: E2,E20 or all"
 RULES_FROM = "a file of Python with a rule of your own, or an installed package with such rules; can be repeated"
@@ -75,6 +76,15 @@ def _layouts(text: str) -> FrozenSet[int]:
     return frozenset(found)
 
 
+def _share(text: str) -> float:
+    """How many of a hundred variables a design has to confirm."""
+    if not re.fullmatch(r"[0-9]{1,3}([.][0-9]{1,3})?", text) or float(text) > 100:
+        raise argparse.ArgumentTypeError(
+            f"{text[:40]} is no share: write a number of per cent from 0 to 100, such as 95"
+        )
+    return float(text)
+
+
 class Kind(NamedTuple):
     """What the value of a key of [check] can be."""
 
@@ -98,6 +108,7 @@ KINDS: Mapping[str, Kind] = {
     "jumps": Kind(str, (str,), '"jumps.csv"', "LEX"),
     "plan": Kind(str, (str,), '"plan.csv"', "LEX"),
     "design": Kind(str, (str, list), '"design.xlsx"', "LEX", one_by_one=True),
+    "confirmed": Kind(_share, (int, float), "95", "X"),
     "rules": Kind(_rules, (str, list), '["E2", "E20"]', f"E{ADDED}"),
     "layouts": Kind(_layouts, (list,), "[39, 67]", "E", item=int),
     "rules_from": Kind(_rules_from, (list,), '["acme.py"]', ADDED, one_by_one=True),
@@ -119,6 +130,7 @@ def add_options(parser: argparse.ArgumentParser) -> None:
     parser.add_argument("--release-speed", **shared.value("KM/H", _release_speed, release))
     parser.add_argument("--jumps", **shared.input_file(JUMPS))
     parser.add_argument("--plan", **shared.input_file(PLAN))
+    parser.add_argument("--confirmed", **shared.value("PERCENT", _share, CONFIRMED))
     parser.add_argument("--design", action="append", **shared.input_file(DESIGN))
     parser.add_argument("--rules", **shared.value("RULES", _rules, RULES))
     parser.add_argument("--rules-from", action="append", **shared.value("FILE.py", _rules_from, RULES_FROM))
@@ -158,6 +170,7 @@ def of_line(options: argparse.Namespace) -> Options:
         asked=asked,
         added=known,
         layouts=stated.get("layouts", frozenset()),
+        confirmed=stated.get("confirmed"),
         replaced=_replaced(of_file.get("rules_from", ()), of_command.get("rules_from")),
     )
 

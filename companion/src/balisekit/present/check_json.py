@@ -9,6 +9,7 @@ from balisekit.io.outputs import Json, encode
 from balisekit.present import accepted_text
 from balisekit.present.account_text import account_json
 from balisekit.present.check_text import groups_by_aspects
+from balisekit.present.design_text import design_json
 from balisekit.present.headings import not_decoded
 from balisekit.present.links_text import FORMAT, rules_json
 from balisekit.present.opening import Shown, paths_from, program_json, settings_json
@@ -35,6 +36,7 @@ def as_json(outcome: Outcome) -> Dict[str, Any]:
         "not_applied": not_applied(outcome, paths_from(outcome.checked)),
         "verdict" if checked.whole else "rest": outcome.verdict.line if outcome.verdict else None,
         **_inputs(checked),
+        **design_json(outcome, paths_from(outcome.checked)),
         "account": account_json(outcome),
         "counts": _counts(checked),
         "telegrams": _with_forms((_row(row), record) for row, record in checked.accepted.decoded()),

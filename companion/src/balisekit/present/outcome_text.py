@@ -15,6 +15,7 @@ from balisekit.present.check_text import (
     left_out_lines,
     missing_in,
 )
+from balisekit.present.design_text import design_lines, too_little
 from balisekit.present.explanations import Page, page_lines, pages
 from balisekit.present.links_text import (
     compared,
@@ -71,12 +72,13 @@ class Kind(Enum):
     DOCUMENT = "what the document lacks"
     FAULT = "entries at fault"
     OF_ENTRIES = "notes on entries"
+    DESIGN = "how much the design confirms"
     ACCOUNT = "what became of the telegrams"
     VERDICT = "how much is open, and the verdict"
 
 
 ABOUT_INPUTS = frozenset({Kind.ACCEPTED, Kind.TABLE, Kind.REFUSED, Kind.LEFT_OUT, Kind.NOT_TRIED, Kind.NOT_DECODED})
-ABOUT_INPUTS |= {Kind.NOT_APPLIED, Kind.FAULT, Kind.OF_ENTRIES, Kind.ACCOUNT}
+ABOUT_INPUTS |= {Kind.NOT_APPLIED, Kind.FAULT, Kind.OF_ENTRIES, Kind.DESIGN, Kind.ACCOUNT}
 
 
 class AnswerLine(NamedTuple):
@@ -173,6 +175,7 @@ def _closing(outcome: Outcome, shown: Shown) -> Iterator[AnswerLine]:
     count = len(judged.faults) if judged else 0
     yield from _of(Kind.FAULT, faults[:count])
     yield from _of(Kind.OF_ENTRIES, faults[count:])
+    yield from _of(Kind.DESIGN, design_lines(outcome))
     yield from _of(Kind.ACCOUNT, account_lines(outcome))
     yield from _of(Kind.VERDICT, last_lines(outcome))
 
@@ -289,7 +292,7 @@ def about_inputs(outcome: Outcome, shown: Shown = str) -> List[str]:
 def missing(outcome: Outcome) -> List[str]:
     """What makes an answer INCOMPLETE: what was refused, left out or not read, and rules that compared nothing."""
     empty = [text for part in outcome.parts if part.applied for text in empty_rules(part.applied).values()]
-    return [*missing_in(outcome.checked), *empty]
+    return [*missing_in(outcome.checked), *empty, *too_little(outcome)]
 
 
 def verdict(outcome: Outcome) -> str:
@@ -300,6 +303,7 @@ def verdict(outcome: Outcome) -> str:
     """
     checked = outcome.checked
     empty = [text for part in outcome.parts if part.applied for text in empty_rules(part.applied).values()]
+    empty += too_little(outcome)
     said = [part for part in outcome.parts if part.items or PROVED not in outcome.letters or part.family.letter == PLAN]
     others = [_found(part, part.applied) for part in said if part.applied]
     if PROVED in outcome.letters:

@@ -17,6 +17,8 @@ from balisekit.present.certificate_reading import Certified
 from balisekit.present.cover import cover
 from balisekit.present.explanations import with_items
 from balisekit.present.outcome_text import explained_rules
+from balisekit.present.design_text import matrix
+from balisekit.present.opening import paths_from
 from balisekit.present.pages import pieces, premises
 from balisekit.present.report import ListedPart, listed
 from balisekit.present.report_blocks import KEPT, block_html, blocks, overview_row
@@ -60,6 +62,7 @@ def report_page(
             "report.js",
             cover=about,
             found=parts,
+            design=matrix(outcome, paths_from(outcome.checked)),
             explained=list(explained_rules(outcome)),
             with_items=with_items,
             **_overview(noted),

@@ -20,6 +20,7 @@ from balisekit.io import inputs
 from balisekit.present import NOT_PROVED
 from balisekit.present.accepted_text import accepted_words
 from balisekit.present.account_text import account_json, not_judged_lines
+from balisekit.present.design_text import design_json
 from balisekit.present.explanations import Page, address_of_page, pages
 from balisekit.present.headings import entry_lines
 from balisekit.present.links_text import empty_rules
@@ -100,7 +101,7 @@ def document(outcome: Outcome) -> Object:
         "originalUriBaseIds": {"%SRCROOT%": {"description": {"text": "the folder in which the command ran"}}},
         "invocations": [_invocation(outcome)],
         "results": results,
-        "properties": {"account": account_json(outcome, clean)},
+        "properties": {**design_json(outcome, paths_from(checked)), "account": account_json(outcome, clean)},
     }
     return {"$schema": SCHEMA, "version": "2.1.0", "runs": [run]}
 

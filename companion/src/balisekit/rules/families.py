@@ -25,6 +25,7 @@ from balisekit.rules.location import Identity
 from balisekit.rules.passed_over import Find, nothing
 from balisekit.rules.rule import Options, Remark, Result, Rule
 from balisekit.rules.statements.scene import BaliseName
+from balisekit.rules.track_plan.coverage import Coverage, coverage_of
 from balisekit.tables.account import Account
 from balisekit.tables.grouping import EVERY
 from balisekit.tables.model import Table
@@ -104,6 +105,8 @@ class Part(NamedTuple):
     open: Sequence[Entry] = ()
     """One for each cause. Those that nobody has accepted are apart from the others."""
     accepted: Sequence[Entry] = ()
+    coverage: Optional[Coverage] = None
+    """Of the rules X: how much the design confirms."""
 
     @property
     def empty(self) -> Sequence[Rule]:
@@ -136,6 +139,8 @@ class Outcome:
     """Whether somebody has asked for all that was not looked at."""
     design: Optional[Plan] = None
     """The design of the line, if its rules were applied."""
+    least: Optional[float] = None
+    """How many of a hundred variables the design has to confirm, if somebody states it."""
 
     def __repr__(self) -> str:
         return f"<Outcome of {self.checked.table.path}: status {self.status}, {len(self.entries)} entries>"
@@ -214,9 +219,19 @@ class Outcome:
         return account.without(WITHOUT_F.format(",".join(self.letters)), lines, asked=True)
 
     @property
+    def coverage(self) -> Optional[Coverage]:
+        """How much the design confirms, if there is one."""
+        return next((part.coverage for part in self.parts if part.coverage), None)
+
+    @property
+    def is_confirmed(self) -> bool:
+        """Whether the design confirms as much as somebody states."""
+        return self.least is None or self.coverage is not None and self.coverage.share >= self.least
+
+    @property
     def whole(self) -> bool:
-        """Whether all that was handed in has been looked at."""
-        return self.checked.whole and not any(part.empty for part in self.parts)
+        """Whether all that was handed in has been looked at, and the design confirms enough of it."""
+        return self.checked.whole and not any(part.empty for part in self.parts) and self.is_confirmed
 
     @property
     def status(self) -> int:
@@ -267,7 +282,9 @@ def apply(
         found = _with_causes(checked, found, partial(_judged_again, checked, asked, options), options)
         found = [part._replace(open=with_stop_aspects(part.open), accepted=part.accepted) for part in found]
     design = options.plan if any(family.letter == PLAN for family in asked) else None
-    return Outcome(checked, found, judged, able != asked, off, options.replaced, outside, design=design)
+    return Outcome(
+        checked, found, judged, able != asked, off, options.replaced, outside, design=design, least=options.confirmed
+    )
 
 
 def _able(checked: Checked, asked: Sequence[Family]) -> Sequence[Family]:
@@ -455,11 +472,18 @@ def _looked_at(checked: Checked, applied: Sequence[Family], options: Options, be
         if family.letter == ADDED:
             line.for_pictures()  # (the views of added rules need memory)
         found = look_for(line, options, family.rules, family.notes, family.passed_over)
+        coverage = _coverage(line, options, found) if family.letter == PLAN else None
         line.after_links()  # (the next rules need memory)
         found = replace(found, notes=(*line.not_applied, *found.notes)) if is_first else found
-        yield Part(family, found.remarks, time.perf_counter() - begin, found)
+        yield Part(family, found.remarks, time.perf_counter() - begin, found, coverage=coverage)
     if line:
         line.for_pictures()  # (entries need memory)
+
+
+def _coverage(line: Line, options: Options, found: Applied) -> Optional[Coverage]:
+    """How much the design confirms, by what each rule X has compared."""
+    some = [result.confirmed for result in found.results.values() if result.confirmed]
+    return coverage_of(line.decoded, options.plan, some) if options.plan else None
 
 
 def _with_entries(checked: Checked, part: Part, judged: Optional[Judged]) -> Part:

@@ -35,8 +35,9 @@ from balisekit.tables.model import Row
 from balisekit.tables.names import NAMED, describe_message, listed, rows_words
 from balisekit.tables.plan import Plan
 
-if TYPE_CHECKING:  # (only added rules need it)
+if TYPE_CHECKING:  # (only added rules need the one, and rules X the other)
     from balisekit.rules.template import Template
+    from balisekit.rules.track_plan.confirmed import Confirmed
 
 REFUSED = "refused"
 FALSE_ALARM, NEVER = "When it is a false alarm", "Never"
@@ -100,6 +101,8 @@ class Options(NamedTuple):
     """The rules that the user adds."""
     layouts: FrozenSet[int] = frozenset()
     """The raw packets whose layouts the project has compared with its print, by NID_PACKET."""
+    confirmed: Optional[float] = None
+    """How many of a hundred variables the design has to confirm, if the user states it."""
     replaced: Tuple[str, ...] = ()
     """The files and packages with rules that the settings name, and in whose place the command line names others."""
 
@@ -190,6 +193,8 @@ class Result(NamedTuple):
     """The reasons that sound lines have too: words without `--all` only count them."""
     doubted: AbstractSet[int] = frozenset()
     """The rows that it would call wrong if no finding of the program did. None of these findings is expected."""
+    confirmed: Optional[Confirmed] = None
+    """Of a rule X: which variables rows of the design confirm or contradict."""
 
     @classmethod
     def of_chains(cls, line: Line, look_at: Callable[[Chain], Iterator[Union[Remark, str, None]]]) -> Result:

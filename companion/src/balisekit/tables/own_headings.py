@@ -49,6 +49,7 @@ STATED = {
         "jumps",
         "plan",
         "design",
+        "confirmed",
         "rules",
         "rules_from",
         "layouts",

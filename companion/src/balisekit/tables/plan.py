@@ -99,6 +99,13 @@ class PlanRow(NamedTuple):
     """What a sentence calls the sheet that the row is in."""
     who: str = ""
     """Who has confirmed it."""
+    is_made: bool = False
+    """Whether it is in a design that was made from telegrams."""
+
+    @property
+    def is_unconfirmed(self) -> bool:
+        """Whether it confirms nothing: it was made from telegrams, and nobody has confirmed it."""
+        return self.is_made and not self.who
 
     @property
     def shown(self) -> int:
@@ -167,11 +174,18 @@ class Plan:
 
     def of_kind(self, kind: str) -> Sequence[PlanRow]:
         """All rows of a kind, in the order of the file."""
-        return [row for row in self.rows if row.kind == kind]
+        return self._kinds.get(kind, ())
 
     def places(self, kind: str, track: str, way: int) -> Sequence[PlanRow]:
         """The rows of a kind for trains of one way of a track, in the order of the kilometres."""
         return self._lanes.get((kind, clean(track), way), ())
+
+    @cached_property
+    def _kinds(self) -> Mapping[str, Sequence[PlanRow]]:
+        kinds: Dict[str, List[PlanRow]] = {}
+        for row in self.rows:
+            kinds.setdefault(row.kind, []).append(row)
+        return kinds
 
     @cached_property
     def _lanes(self) -> Mapping[Lane, Sequence[PlanRow]]:
@@ -349,8 +363,8 @@ def _row(number: int, cells: Mapping[str, str]) -> PlanRow:
         raise TableError(NAMED_KINDS[kind], column="name")
     km, km_to = _kilometres(kind, cells)
     value = _read("value", lambda text: _value(kind, text), cells)
-    texts = {name: clean(cells[name]) for name in ("track", "name", "who")}
-    return PlanRow(number, kind, km, km_to, way=way, value=value, **texts)
+    track, name, who = (clean(cells[column]) for column in ("track", "name", "who"))
+    return PlanRow(number, kind, km, km_to, track, way, value, name, who=who)
 
 
 def _kilometres(kind: str, cells: Mapping[str, str]) -> Tuple[Decimal, Optional[Decimal]]:

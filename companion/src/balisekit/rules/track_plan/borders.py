@@ -2,8 +2,10 @@
 from __future__ import annotations
 
 from decimal import Decimal
-from typing import Any, Dict, NamedTuple, Optional
+from typing import Any, Dict, Iterator, NamedTuple, Optional
 
+from balisekit.rules.telegrams import Packet
+from balisekit.rules.track_plan.confirmed import Path
 from balisekit.rules.track_plan.placed import Saying
 from balisekit.tables.plan_values import LEVEL_WORDS, level_word
 
@@ -46,6 +48,13 @@ def border_of(saying: Saying) -> Optional[Border]:
         return None
     distance = form.get("d_rbctr", NOW)
     return Border(saying, kind, 0 if distance == NOW else distance * packet.unit, f"{form['nid_c']}/{form['nid_rbc']}")
+
+
+def variables_of(packet: Packet) -> Iterator[Path]:
+    """The variables of a packet about a border that a design states."""
+    yield from ((key,) for key in ("d_leveltr", "d_rbctr", "q_rbc", "nid_c", "nid_rbc"))
+    for place, _ in enumerate(packet.form.get("transitions", ())):
+        yield from (("transitions", place, key) for key in ("m_leveltr", "nid_ntc"))
 
 
 def numbers(kind: str, text: str, prefix: str = "") -> Dict[str, Decimal]:

@@ -12,11 +12,13 @@ from typing import Dict, Iterable, Iterator, Mapping, NamedTuple, Optional, Sequ
 from balisekit.design.groups import DesignedGroups
 from balisekit.design.tracks import Start, Tracks
 from balisekit.etcs.geometry import NOMINAL
+from balisekit.rules.decoded import Decoded, once
 from balisekit.rules.line import Line
 from balisekit.rules.location import BEHIND_POINT
 from balisekit.rules.passages import Passage
 from balisekit.rules.rule import Options, Remark, Result, Urgency
 from balisekit.rules.telegrams import Packet
+from balisekit.rules.track_plan.confirmed import Confirmed, Path
 from balisekit.tables.chainage import Chainage
 from balisekit.tables.names import clean, kilometre, rows_words
 from balisekit.tables.plan import Plan, PlanRow, rows_named
@@ -40,6 +42,12 @@ class Saying(NamedTuple):
     packet: Packet
 
 
+@once
+def bits_known(decoded: Decoded) -> Dict[int, Mapping[Path, int]]:
+    """The bits of the variables of packets that some rule has needed, by the ids of the forms of these packets."""
+    return {}
+
+
 class PlacedPlan:
     """A plan beside the decoded data of a table."""
 
@@ -49,6 +57,8 @@ class PlacedPlan:
         self.groups = DesignedGroups(self.plan, options.jumps)
         self._starts: Dict[Passage, Optional[Start]] = {}
         self._limits: Dict[Passage, Optional[int]] = {}
+        self.confirmed = Confirmed(bits_known(self.decoded))
+        """What is compared with the plan, and how it comes out."""
 
     def start(self, passage: Passage) -> Optional[Start]:
         """From where the distances of a passage count: where the plan has its group, or else the table."""
@@ -118,7 +128,8 @@ class PlacedPlan:
         looked_at = counts.pop("", 0)
         if not self.decoded.along and not counts and kinds not in (["aspect"], ["group"]):
             counts[NO_PLACE] = sum(len(self.plan.of_kind(kind)) for kind in kinds)
-        return Result(found, looked_at, counts, [*self._notes(kinds), *notes], has_others and not has_own)
+        made = Result(found, looked_at, counts, [*self._notes(kinds), *notes], has_others and not has_own)
+        return made._replace(confirmed=self.confirmed)
 
     def _notes(self, kinds: Sequence[str]) -> Iterator[str]:
         """The rows of these kinds that no rule can compare."""

@@ -7,6 +7,7 @@ from typing import Dict, List, NamedTuple, Optional, Sequence, Tuple
 
 from balisekit.design.tracks import Element, Start
 from balisekit.rules.facts import sender
+from balisekit.rules.track_plan.confirmed import Path
 from balisekit.rules.track_plan.placed import (
     BEHIND_POINT,
     NO_PLACE,
@@ -25,6 +26,8 @@ from balisekit.tables.plan import PlanRow, rows_named
 
 KINDS = {SPEEDS: "speed", GRADIENTS: "gradient"}
 """The kinds of rows of the plan, by NID_PACKET of the profiles that are compared with them."""
+KEYS = {SPEEDS: ("d_static", "v_static"), GRADIENTS: ("d_gradient", "q_gdir", "g_a")}
+"""The variables of an element that are compared."""
 NO_END = "an open profile without authority"
 Span = Tuple[int, int]
 """The first and the last place of a stretch, in the direction of passage."""
@@ -45,6 +48,8 @@ class Difference(NamedTuple):
     """From where to where it differs together with those that touch it, if there are any."""
     rows: Tuple[PlanRow, ...] = ()
     """The rows of the plan that these differ from."""
+    element: int = 0
+    """Which element of the profile it is."""
 
     def fact(self, placed: PlacedPlan) -> str:
         """The stretch with both values, and who says one of them."""
@@ -85,6 +90,7 @@ def compare(placed: PlacedPlan, number: int, options: Options) -> Compared:
         for some in longer(_differing(placed, saying, options, compared.counts), _along, _allowed):
             longest = max(some, key=_length)
             for each in some:
+                placed.confirmed.contradict([each.part.row], saying.packet, _variables(number, each.element))
                 named = each if _length(each) > each.allowed else longest
                 key = named.part.row.number, named.said, saying.passage.way or 0
                 known.setdefault(key, []).append(_with_touching(each, some))
@@ -104,6 +110,8 @@ def _differing(placed: PlacedPlan, saying: Saying, options: Options, counts: Cou
     found: List[Difference] = []
     kind = KINDS[saying.packet.number]
     start = placed.start(saying.passage)
+    rows: List[PlanRow] = []
+    paths: List[Path] = []
     for place, element in enumerate(saying.packet.stretches):
         tolerance = placed.decoded.tolerance(options.tolerance_of_places, allowance(saying.packet, place + 2))
         ends, why = known(placed, saying, extent(saying, element, start))
@@ -112,12 +120,21 @@ def _differing(placed: PlacedPlan, saying: Saying, options: Options, counts: Cou
             for part in wanted:
                 if part.value != element.value:
                     places = start.at(part.begin), start.at(part.end)
-                    found.append(Difference(saying, *places, element.value, part, tolerance))
+                    found.append(Difference(saying, *places, element.value, part, tolerance, element=place))
             covered = sum(part.end - part.begin for part in wanted)
             if not wanted or ends[1] - ends[0] - covered > tolerance:
                 why = SAYS_NOTHING
+            rows += [part.row for part in wanted if part.value == element.value]
+            paths += () if why else _variables(saying.packet.number, place)
+        placed.confirmed.pass_over(saying.packet, why)
         counts[why] += 1
+    placed.confirmed.confirm(rows, saying.packet, paths)
     return found
+
+
+def _variables(number: int, element: int) -> Sequence[Path]:
+    """The variables of an element of a profile: how far it is from the one before it, and what holds from there."""
+    return [("elements", element, key) for key in KEYS[number]]
 
 
 def _along(difference: Difference) -> Span:

@@ -40,6 +40,7 @@ from typing import Dict, List, NamedTuple, Optional, Sequence, Tuple
 from balisekit.design.tracks import Spot, Start, nearest
 from balisekit.rules.line import Line
 from balisekit.rules.location import ANOTHER_TRACK
+from balisekit.rules.track_plan.confirmed import Path
 from balisekit.rules.track_plan.placed import (
     BEHIND_POINT,
     NO_PLACE,
@@ -81,9 +82,18 @@ def find(line: Line, options: Options) -> Result:
             if end and placed.tracks.is_lost("signal", end.start, end.place, tolerance):
                 end, why = None, NO_PLACE
             counts[why] += 1
+            placed.confirmed.pass_over(saying.packet, why)
             if end and abs(end.place - end.signal.place) > tolerance:
                 found.setdefault((end.signal.row.number, end.place), []).append(end)
+                placed.confirmed.contradict([end.signal.row], saying.packet, lengths_of(saying.packet))
+            elif end:
+                placed.confirmed.confirm([end.signal.row], saying.packet, lengths_of(saying.packet))
     return placed.result(["signal"], [_remark(placed, each) for each in found.values()], counts)
+
+
+def lengths_of(packet: Packet) -> Sequence[Path]:
+    """The variables whose sum is the end of an authority."""
+    return [("l_endsection",), *(("sections", place, "l_section") for place in range(packet.lengths - 1))]
 
 
 def gives_way(packet: Packet) -> bool:

@@ -41,22 +41,36 @@ How to accept it. State why the packet differs from the route table, for example
 from __future__ import annotations
 
 from collections import Counter
-from decimal import Decimal
-from typing import Dict, Iterator, List, Set
+from typing import Iterator, List, Mapping, Sequence, Set
 
 from balisekit.rules.line import Line
 from balisekit.rules.passages import Passage
 from balisekit.rules.rule import Options, Remark, Result, Rule, Urgency
+from balisekit.rules.telegrams import Packet
 from balisekit.rules.track_plan.aspect_sites import Site, of_other_packets, sites_of
 from balisekit.rules.track_plan.aspect_terms import AUTHORITY, all_terms_of, allowances, both, is_alike, values_of
+from balisekit.rules.track_plan.confirmed import Path
 from balisekit.rules.track_plan.placed import NO_PLACE, SAYS_NOTHING, Counts, PlacedPlan, Saying, cells_of
 from balisekit.rules.track_plan.placed import plan_words, remark
 from balisekit.rules.track_plan.sites import elsewhere
-from balisekit.rules.track_plan.x3_ends import other_signal
+from balisekit.rules.track_plan.x3_ends import lengths_of, other_signal
 from balisekit.tables.plan import WAY_WORDS, PlanRow, aspect_name
 from balisekit.tables.plan_values import OTHER_KEYS
 
 REFUSED = "a refused telegram of the aspect"
+VARIABLES: Mapping[str, Sequence[Path]] = {
+    "v": [("v_main",)],
+    "overlap": [("overlap", "d_ol")],
+    "release": [("overlap", "v_releaseol"), ("danger_point", "v_releasedp")],
+    "danger": [("danger_point", "d_dp")],
+    "loa": [("end_speed",)],
+    "loa_time": [("end_timeout",)],
+    "end_time": [("end_timer", "t_endtimer")],
+    "end_start": [("end_timer", "d_endtimerstartloc")],
+    "overlap_time": [("overlap", "t_ol")],
+    "overlap_start": [("overlap", "d_startol")],
+}
+"""The variables of a packet 12 that a key states. The end is the sum of several."""
 
 
 def find(line: Line, options: Options) -> Result:
@@ -70,14 +84,18 @@ def find(line: Line, options: Options) -> Result:
         fitting = [row for row in rows if row.way in (0, passage.way)]
         matched.update(row.number for row in (fitting if passage.way else rows))
         for packet in own:
-            counts["" if fitting else NO_PLACE if rows and passage.way is None else SAYS_NOTHING] += 1
+            why = "" if fitting else NO_PLACE if rows and passage.way is None else SAYS_NOTHING
+            placed.confirmed.pass_over(packet, why)
+            counts[why] += 1
             for row in (row for row in fitting if not _needs_none(row)):
                 found += _compare(placed, Saying(passage, packet), row, options, counts)
     sites = sites_of(line.decoded)
     for row in (row for rows in placed.plan.aspects.values() for row in rows):
         site = sites.get(row.name)
         if site and site.is_read:
-            found += [] if row.number in matched or _needs_none(row) else [_lacking(site, row)]
+            if row.number not in matched and not _needs_none(row):
+                placed.confirmed.uncovered.add(row.number)
+                found.append(_lacking(site, row))
             found += of_other_packets(site, row, int(options.tolerance * 10), counts)
         elif site and row.number not in matched:
             counts[REFUSED] += 1
@@ -95,13 +113,13 @@ def _name(passage: Passage) -> str:
 
 def _compare(placed: PlacedPlan, saying: Saying, row: PlanRow, options: Options, counts: Counts) -> Iterator[Remark]:
     """One remark on all values of a packet 12 that differ."""
-    said, allowed = all_terms_of(saying.packet), allowances(saying.packet, int(options.tolerance * 10))
-    texts: List[str] = []
-    values: Dict[str, Decimal] = {}
-    for key, wanted in row.terms.items():
-        if key not in (*OTHER_KEYS, "to") and not is_alike(key, said.get(key), wanted, allowed.get(key, 0)):
-            texts.append(both(key, said.get(key), wanted))
-            values.update(values_of(key, said.get(key), wanted))
+    packet, said = saying.packet, all_terms_of(saying.packet)
+    allowed = allowances(packet, int(options.tolerance * 10))
+    stated = [key for key in row.terms if key not in (*OTHER_KEYS, "to")]
+    differ = [key for key in stated if not is_alike(key, said.get(key), row.terms[key], allowed.get(key, 0))]
+    texts = [both(key, said.get(key), row.terms[key]) for key in differ]
+    values = {name: value for key in differ for name, value in values_of(key, said.get(key), row.terms[key])}
+    _confirm(placed, packet, row, stated, differ)
     if "to" in row.terms:
         differing, why = other_signal(placed, saying, str(row.terms["to"]), options)
         counts.update({why: counts.get(why, 0) + 1} if why else {})
@@ -110,6 +128,13 @@ def _compare(placed: PlacedPlan, saying: Saying, row: PlanRow, options: Options,
     if texts:
         sentence = f"{' by the plan; '.join(texts)} by {plan_words(row, with_km=False)}"
         yield remark("X4", [saying], sentence, values, [cells_of(row)])
+
+
+def _confirm(placed: PlacedPlan, packet: Packet, row: PlanRow, stated: Sequence[str], differ: Sequence[str]) -> None:
+    """Takes down which variables of a packet 12 the row confirms, and which it contradicts."""
+    variables = {**VARIABLES, "end": lengths_of(packet), "sections": lengths_of(packet)}
+    placed.confirmed.confirm([row], packet, [path for key in stated if key not in differ for path in variables[key]])
+    placed.confirmed.contradict([row] if differ else [], packet, [path for key in differ for path in variables[key]])
 
 
 def _lacking(site: Site, row: PlanRow) -> Remark:

@@ -46,7 +46,7 @@ from typing import Dict, Iterator, List, Optional, Sequence, Set, Tuple
 from balisekit.design.tracks import Spot, nearest
 from balisekit.rules.line import Line
 from balisekit.rules.meaning.along import unread_of
-from balisekit.rules.track_plan.borders import NOT_DECODED, NUMBERS, Border, border_of, numbers
+from balisekit.rules.track_plan.borders import NOT_DECODED, NUMBERS, Border, border_of, numbers, variables_of
 from balisekit.rules.track_plan.placed import (
     BEHIND_POINT,
     NO_PLACE,
@@ -89,16 +89,23 @@ def find(line: Line, options: Options) -> Result:
         named.update(spot.row.number for spot in spots)
         counts[why] += 1
         unplaced.update([(border.kind, saying.passage.track)] if why in (NO_PLACE, BEHIND_POINT) else [])
-        if why or any(_is_there(border, place, spot, tolerance) and spot.row.value == border.text for spot in spots):
+        placed.confirmed.pass_over(saying.packet, why)
+        same = [spot for spot in spots if _is_there(border, place, spot, tolerance) and spot.row.value == border.text]
+        tell = placed.confirmed.confirm if same else placed.confirmed.contradict
+        tell([spot.row for spot in same or spots], saying.packet, list(variables_of(saying.packet)))
+        if why or same:
             continue
         elsewhere = None if _is_there(border, place, spots[0], tolerance) else place
         found.setdefault((spots[0].row.number, elsewhere, border.text), []).append((border, place, spots))
     remarks = [_remark(placed, each) for each in found.values()]
     rows = [row for kind in BORDERS for row in placed.plan.of_kind(kind) if row.number not in named]
     left = [row for row in rows if (row.kind, row.track) not in unplaced]
-    unnamed = [each for row in left for each in _unnamed(placed, row)]
-    unsure = len(rows) - len(left) + (len(unnamed) if counts[NOT_DECODED] else 0)
-    remarks += [] if counts[NOT_DECODED] else unnamed
+    unnamed = {row.number: list(_unnamed(placed, row)) for row in left}
+    remarked = [each for some in unnamed.values() for each in some]
+    unsure = len(rows) - len(left) + (len(remarked) if counts[NOT_DECODED] else 0)
+    if not counts[NOT_DECODED]:
+        placed.confirmed.uncovered.update(number for number, some in unnamed.items() if some)
+        remarks += remarked
     beyond = sum(1 for row in left if _is_beyond(placed, row))
     counts.update({why: count for why, count in ((BEYOND, beyond), (UNSURE, unsure)) if count})
     return placed.result(BORDERS, remarks, counts)

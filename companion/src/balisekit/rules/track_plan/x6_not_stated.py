@@ -63,6 +63,7 @@ def find(line: Line, options: Options) -> Result:
             continue
         stating = ends_of(placed) if kind == "signal" else profiles_of(placed, kind)
         left = {row.number for row in rows if _is_left(stating, row, counts)}
+        placed.confirmed.uncovered |= left
         found += [_remark(placed, some) for some in _together(rows, left)]
     return Result(found, counts.pop("", 0), counts, usual=frozenset({ONE_WAY}))
 

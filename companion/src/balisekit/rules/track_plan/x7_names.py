@@ -52,7 +52,7 @@ def find(line: Line, options: Options) -> Result:
     groups = {clean(data.group.group.name): data for data in line.decoded.groups}
     tracks = list(dict.fromkeys(clean(data.group.track) for data in line.decoded.groups))
     found = [*_tracks(placed, tracks), *_aspects(placed, groups)]
-    return Result(found, len(placed.plan.rows))
+    return Result(found, len(placed.plan.rows), confirmed=placed.confirmed)
 
 
 def _tracks(placed: PlacedPlan, tracks: Sequence[str]) -> Iterator[Remark]:
@@ -64,7 +64,7 @@ def _tracks(placed: PlacedPlan, tracks: Sequence[str]) -> Iterator[Remark]:
     for track, rows in missing.items():
         name = f"track {track}" if track else "no track"
         what = f"no track {quoted(track)}" if track else "no group without a track"
-        yield _remark(rows, what, meant(track, tracks), Location(listed=name), name)
+        yield _remark(placed, rows, what, meant(track, tracks), Location(listed=name), name)
 
 
 def _aspects(placed: PlacedPlan, groups: Mapping[str, GroupData]) -> Iterator[Remark]:
@@ -86,11 +86,11 @@ def _aspects(placed: PlacedPlan, groups: Mapping[str, GroupData]) -> Iterator[Re
             continue
         looked_for -= 1
         own = [each for each, of in known.items() if of == group] if looked_for > 0 else []
-        yield _remark(rows, f"no aspect {quoted(name)}", meant(name, own), groups[group].location(), name)
+        yield _remark(placed, rows, f"no aspect {quoted(name)}", meant(name, own), groups[group].location(), name)
     for number, (name, rows) in enumerate(missing.items()):
         rows.sort(key=lambda row: row.number)
         like = meant(name, list(groups)) if number < LOOKED_FOR else ""
-        yield _remark(rows, f"no group {quoted(name)}", like, Location(listed=name), name)
+        yield _remark(placed, rows, f"no group {quoted(name)}", like, Location(listed=name), name)
 
 
 def group_of(name: str, groups: Mapping[str, GroupData]) -> Optional[str]:
@@ -109,8 +109,9 @@ def meant(name: str, known: Sequence[str]) -> str:
     return f": did you mean {quoted(folded[like[0]])}?" if like else ""
 
 
-def _remark(rows: Sequence[PlanRow], what: str, like: str, where: Location, name: str) -> Remark:
+def _remark(placed: PlacedPlan, rows: Sequence[PlanRow], what: str, like: str, where: Location, name: str) -> Remark:
     """A remark on rows of the plan with one name."""
+    placed.confirmed.uncovered.update(row.number for row in rows)
     have = f"{rows_named(rows)} {'has' if len(rows) == 1 else 'have'}"
     sentence = f"the table has {what}, which {have}{like}"
     return Remark("X7", where, sentence, texts={"plan_name": name}, facts=[cells_of(row) for row in rows])

@@ -37,6 +37,7 @@ from decimal import Decimal
 from typing import Dict, Iterator, List, Tuple
 
 from balisekit.design.groups import DesignedGroup, DesignedGroups, link
+from balisekit.engine.records import Header
 from balisekit.etcs.geometry import NOMINAL
 from balisekit.rules.line import Line
 from balisekit.rules.location import NO_DIRECTION
@@ -46,7 +47,7 @@ from balisekit.rules.telegrams import LINKING, Link, Packet, rounding
 from balisekit.rules.track_plan.sites import differing_places, lacks_kilometres
 from balisekit.rules.track_plan.placed import SAYS_NOTHING, PlacedPlan, cells_of, plan_words
 from balisekit.tables.names import clean, rows_words
-from balisekit.tables.plan import WAY_WORDS, rows_named
+from balisekit.tables.plan import WAY_WORDS, PlanRow, rows_named
 from balisekit.tables.plan_values import metres
 
 REFUSED = "no telegram is read"
@@ -64,15 +65,15 @@ def find(line: Line, options: Options) -> Result:
         group = designed.by_name.get(clean(data.group.group.name))
         counts[SAYS_NOTHING if group is None else "" if data.telegrams else REFUSED] += 1
         if group:
-            found += _of_group(line, data, group, options, counts)
-    return placed.result(["group"], [*found, *_of_links(line, designed, options, counts)], +counts)
+            found += _of_group(placed, line, data, group, options, counts)
+    return placed.result(["group"], [*found, *_of_links(placed, line, designed, options, counts)], +counts)
 
 
 def _of_group(
-    line: Line, data: GroupData, group: DesignedGroup, options: Options, counts: Dict[str, int]
+    placed: PlacedPlan, line: Line, data: GroupData, group: DesignedGroup, options: Options, counts: Dict[str, int]
 ) -> Iterator[Remark]:
     """One remark on all that differs in a group."""
-    differ = [*_headers(data, group), *differing_places(line, data, group, options)]
+    differ = [*_headers(placed, data, group), *differing_places(line, data, group, options)]
     counts[NO_KILOMETRES] += lacks_kilometres(data, group)
     if group.nominal and data.group.rising is None:
         counts[NO_DIRECTION] += 1
@@ -84,12 +85,13 @@ def _of_group(
         yield Remark("X8", data.location(), sentence, facts=[cells_of(group.row)])
 
 
-def _headers(data: GroupData, group: DesignedGroup) -> Iterator[str]:
+def _headers(placed: PlacedPlan, data: GroupData, group: DesignedGroup) -> Iterator[str]:
     """What differs in the headers: each other value once, with its rows."""
     terms = group.row.group_terms
     balises = terms.balises or len(terms.kilometres)
     rows: Dict[str, List[int]] = {}
     for row, header in ((number, telegram.header) for number, telegram in data.telegrams.items()):
+        _compare_header(placed, group.row, row, header)
         identity = header.nid_c, header.nid_bg
         if terms.identity and identity != terms.identity:
             own, wanted = (f"{each[0]}/{each[1]}" for each in (identity, terms.identity))
@@ -103,14 +105,26 @@ def _headers(data: GroupData, group: DesignedGroup) -> Iterator[str]:
         yield text.format("" if len(numbers) == len(data.telegrams) else f" in {rows_words(sorted(numbers))}")
 
 
-def _of_links(line: Line, designed: DesignedGroups, options: Options, counts: Dict[str, int]) -> Iterator[Remark]:
+def _compare_header(placed: PlacedPlan, row: PlanRow, number: int, header: Header) -> None:
+    """Which variables of the header of the telegram in this row are those of the plan, as far as it states them."""
+    terms = row.group_terms
+    nid_c, nid_bg = terms.identity or (None, None)
+    wanted = {"nid_c": nid_c, "nid_bg": nid_bg, "n_total": terms.balises and terms.balises - 1}
+    for key, value in (*wanted.items(), ("q_link", terms.is_linked)):
+        if value is not None:
+            placed.confirmed.of_header(row, number, key, getattr(header, key) == value)
+
+
+def _of_links(
+    placed: PlacedPlan, line: Line, designed: DesignedGroups, options: Options, counts: Dict[str, int]
+) -> Iterator[Remark]:
     """Compares the links of all groups and messages. Links of several telegrams that differ alike are one remark."""
     found: Dict[Tuple[str, str], List[Remark]] = {}
     seen = set()
     for passage in line.decoded.passages:
         for packet in passage.of(LINKING):
             for each in packet.links if (packet, passage.direction) not in seen else ():
-                for remark in _of_link(line, designed, options, counts, passage, packet, each):
+                for remark in _of_link(placed, designed, options, counts, passage, packet, each):
                     found.setdefault((remark.sentence, str(passage.group)), []).append(remark)
             seen.add((packet, passage.direction))
     for first, *others in found.values():
@@ -118,7 +132,7 @@ def _of_links(line: Line, designed: DesignedGroups, options: Options, counts: Di
 
 
 def _of_link(
-    line: Line,
+    placed: PlacedPlan,
     designed: DesignedGroups,
     options: Options,
     counts: Dict[str, int],
@@ -134,15 +148,24 @@ def _of_link(
         return
     wanted, why = link(sender, target, passage.direction == NOMINAL)
     counts[why] += 1
+    placed.confirmed.pass_over(packet, why)
     if wanted is None:
         return
-    allowed = line.decoded.tolerance(options.tolerance, rounding(own.unit, own.number + 1))
+    allowed = placed.decoded.tolerance(options.tolerance, rounding(own.unit, own.number + 1))
     differ: List[str] = []
     values: Dict[str, Decimal] = {}
-    if abs(own.total - wanted.distance) > allowed:
+    is_far, is_turned = abs(own.total - wanted.distance) > allowed, own.nominal != wanted.is_nominal
+    others = {"d_link": is_far, "q_linkorientation": is_turned, "nid_c": False, "nid_bg": False}
+    paths = {
+        is_other: [("links", own.number, key) for key in others if others[key] == is_other]
+        for is_other in (True, False)
+    }
+    placed.confirmed.confirm([target.row], packet, paths[False])
+    placed.confirmed.contradict([target.row] if paths[True] else [], packet, paths[True])
+    if is_far:
         differ.append(f"D_LINK adds up to {metres(own.total)} m, and to {metres(wanted.distance)} m")
         values = {"d_link_m": Decimal(own.total) / 10, "plan_d_link_m": Decimal(wanted.distance) / 10}
-    if own.nominal != wanted.is_nominal:
+    if is_turned:
         differ.append(f"Q_LINKORIENTATION is {int(own.nominal)}, and {int(wanted.is_nominal)}")
     if differ:
         rows = rows_named([sender.row, target.row])
