@@ -3,7 +3,7 @@ from __future__ import annotations
 
 from collections import Counter
 from decimal import Decimal
-from typing import Any, Dict, Iterator, List, NamedTuple, Optional, Sequence, Tuple
+from typing import Any, Dict, Iterator, List, NamedTuple, Sequence, Tuple
 
 from balisekit.etcs.raw_packets import content_of
 from balisekit.etcs.variables import UNITS, metres
@@ -27,8 +27,8 @@ class Position(NamedTuple):
 
     passage: Passage
     packet: Packet
-    index: int
-    """Its place in the packet."""
+    number: int
+    """Its place in the packet, counted from 0."""
     unit: int
     sent: int
     """M_POSITION in metres."""
@@ -44,10 +44,10 @@ def unlike_positions(decoded: Decoded, options: Options) -> Tuple[Sequence[Remar
     Others prove the layout, too: positions that agree with kilometres by chance are unlikely.
     """
     some = list(_positions(decoded))
-    counts = Counter(each.offset for each in some)
-    usual: Optional[int] = max(counts, key=lambda offset: _near(counts, offset), default=None)
-    if usual is None:
+    if not some:
         return [], 0
+    counts = Counter(each.offset for each in some)
+    usual = max(counts, key=lambda offset: _near(counts, offset))
     allowed = max(decoded.tolerance(options.tolerance, each.unit) for each in some) + 10
     right = [each for each in some if abs(each.offset - usual) <= allowed]
     wrong = [each for each in some if abs(each.offset - usual) > allowed]
@@ -79,13 +79,13 @@ def _of_packet(decoded: Decoded, passage: Passage, packet: Packet, values: Any) 
     """The positions of a packet."""
     own, unit = passage.group.group.identity if passage.group else None, UNITS[values["q_scale"]]
     country = own[0] if own else 0
-    for index, each in enumerate(values["elements"]):
+    for number, each in enumerate(values["elements"]):
         country = each.get("nid_c", country)
         data = decoded.by_identity.get((country, each["nid_bg"]))
         if data is not None and data.group.km is not None and each["m_position"] != NO_POSITION:
             at = int(data.group.km * 10_000) + (passage.way or 1) * each["d_posoff"] * unit
             sent = each["m_position"]
-            yield Position(passage, packet, index, unit, sent, data.group, sent * 10 - at)
+            yield Position(passage, packet, number, unit, sent, data.group, sent * 10 - at)
 
 
 def _remark(position: Position, usual: int, right: List[Position]) -> Remark:
@@ -93,7 +93,7 @@ def _remark(position: Position, usual: int, right: List[Position]) -> Remark:
     apart, wanted = abs(position.offset - usual), position.sent - Decimal(position.offset - usual) / 10
     first = right[0]
     sentence = (
-        f"M_POSITION of the {ordinal(position.index)} position, from {position.group}, is {position.sent} m: "
+        f"M_POSITION of the {ordinal(position.number)} position, from {position.group}, is {position.sent} m: "
         f"{wanted:f} m would agree with the kilometres as {len(right)} others do, such as that of "
         f"{source(first.passage, first.packet)}. They differ by {metres(apart)}"
     )

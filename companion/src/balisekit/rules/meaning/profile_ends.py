@@ -2,7 +2,7 @@
 from __future__ import annotations
 
 from collections import Counter
-from typing import Dict, Iterator, List, NamedTuple, Optional, Sequence, Set, Tuple
+from typing import Any, Dict, Iterator, List, NamedTuple, Optional, Sequence, Set, Tuple
 
 from balisekit.etcs.variables import metres
 from balisekit.rules.decoded import Decoded, tolerance_of_lengths
@@ -76,7 +76,8 @@ def _cases(passage: Passage) -> Iterator[Tuple[Key, Case]]:
     packet = said[numbers.index(AUTHORITY)] if numbers.count(AUTHORITY) == 1 else None
     if packet is None or not packet.form["v_main"] or packet.form["end_speed"]:
         return
-    form, end = packet.form, packet.end
+    form: Any = packet.form
+    end = packet.end
     lengths = [form[part][key] for part, key in (("overlap", "d_ol"), ("danger_point", "d_dp")) if part in form]
     supervised = end + (lengths[0] * packet.unit if lengths else 0)
     for number in (GRADIENTS, SPEEDS):
