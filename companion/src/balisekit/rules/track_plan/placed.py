@@ -17,12 +17,13 @@ from balisekit.rules.location import BEHIND_POINT
 from balisekit.rules.passages import Passage
 from balisekit.rules.rule import Options, Remark, Result, Urgency
 from balisekit.rules.telegrams import Packet
+from balisekit.tables import plan_things
 from balisekit.tables.chainage import Chainage
 from balisekit.tables.names import clean, kilometre, rows_words
 from balisekit.tables.plan import Plan, PlanRow
 
 __all__ = ["BEHIND_POINT", "PlacedPlan", "Saying", "cells_of", "plan_words", "remark"]
-COMPARED = ("speed", "gradient", "signal", "aspect", "level", "rbc", "group")
+COMPARED = ("speed", "gradient", "signal", "aspect", "level", "rbc", "group", *plan_things.KEYS)
 """The kinds of rows that rules compare."""
 SAYS_NOTHING = "the plan says nothing"
 NO_PLACE = "no kilometre or direction"
