@@ -694,6 +694,7 @@ def test_one_thing_is_named_by_the_singular() -> None:
         "1 statement about groups",
         "1 name of the table",
         "1 area of the plan",
+        "1 radio centre of the plan",
     ]
 
 
@@ -915,7 +916,7 @@ def test_x6_of_a_signal(program: Program, tmp_path: Path, metres: int, is_named:
     """Within the table it is reported at the nearest group. At the first one and beyond the last one it is counted."""
     line = read(program, written(program, tmp_path / "t.csv"))
     found = results(line, farther(metres, "signal", implied_rows(line)), tmp_path)
-    assert [len(found[name].found) for name in found] == [0, 0, 0, 0, 0, is_named, 0, 0, 0, 0]
+    assert [len(found[name].found) for name in found] == [0, 0, 0, 0, 0, is_named, 0, 0, 0, 0, 0]
     assert found["X6"].not_looked_at == ({} if is_named else {"beyond the table": 1})
     for each in found["X6"].found:
         assert each.sentence.startswith(f"no authority ends at the signal of row {len(implied_rows(line)) + 2} of the ")
@@ -1199,6 +1200,54 @@ def test_areas_that_mean_nothing(tmp_path: Path, row: str, why: str) -> None:
     assert [each.why for each in raised.value.faults] == [why]
 
 
+CENTRES: List[Cells] = [{**dict.fromkeys(plan.COLUMNS, ""), "kind": "radio", "value": "rbc=352/17 phone=012345"}]
+NETWORK: Cells = {**CENTRES[0], "value": "network=123456"}
+
+
+def with_numbers(rows: List[Row]) -> None:
+    """Two packets 42 with one number, a packet 131 with the short number, and a packet 45."""
+    digits = f"{int('012345' + 'f' * 10, 16):064b}"
+    for group in ("Signal 3", "Signal 4"):
+        fixed(rows, group).append(raw(42, 1, "".join(["1", bits(352, 10), bits(17, 14), digits, "0"])))
+    fixed(rows, "Signal 4").append(raw(45, 1, bits(0x123456, 24)))
+
+
+def test_x11_of_sound_packets(program: Program, tmp_path: Path) -> None:
+    """The number is that of the plan, and a plan without such rows compares nothing."""
+    line = read(program, written(program, tmp_path / "t.csv", Line(), with_numbers))
+    rows = implied_rows(line)
+    found = results(line, [*rows, *CENTRES, NETWORK], tmp_path)["X11"]
+    assert (found.found, found.looked_at, found.not_looked_at) == ([], 3, {})
+    found = results(line, [*rows, *CENTRES], tmp_path)["X11"]
+    assert (found.found, found.looked_at, found.not_looked_at) == ([], 2, {"the plan says nothing": 1})
+    assert results(line, rows, tmp_path)["X11"].looked_at == 0
+
+
+@pytest.mark.parametrize(
+    "value, said, unnamed",
+    [
+        ("rbc=352/17 phone=012346", "NID_RADIO of the RBC 352/17 is 012345, and 012346 by row ", ""),
+        ("rbc=352/17 phone=short", "NID_RADIO of the RBC 352/17 is 012345, and short by row ", ""),
+        ("rbc=352/18", "NID_C and NID_RBC are 352/17, and no row of the plan has it", "RBC 352/18"),
+        ("network=123457", "NID_MN is 123456, and no row of the plan has it", "network 123457"),
+    ],
+)
+def test_x11_of_another_value(program: Program, tmp_path: Path, value: str, said: str, unnamed: str) -> None:
+    """All packets that differ alike are one remark. A row that no packet names is at no group."""
+    line = read(program, written(program, tmp_path / "t.csv", Line(), with_numbers))
+    found = remarks(line, [*implied_rows(line), {**CENTRES[0], "value": value}], tmp_path)
+    assert {each.rule for each in found} == {"X11"} and found[0].sentence.startswith(said), found
+    assert [each.location.listed for each in found[1:]] == ([unnamed] if unnamed else [])
+    assert len(found[0].also) == (0 if "network" in value else 1)
+
+
+@pytest.mark.parametrize("value", ["phone=12", "network=12 rbc=352/17", "network=1234567", "rbc=352/17 phone=abc"])
+def test_radio_rows_that_mean_nothing(tmp_path: Path, value: str) -> None:
+    """They are refused."""
+    with pytest.raises(TableErrors):
+        plan_of([{**CENTRES[0], "value": value}], tmp_path)
+
+
 def test_options(run: Run, program: Program, tmp_path: Path) -> None:
     """The plan may be stated in balisekit.toml. Rules X need one."""
     path, file = written(program, tmp_path / "t.csv"), tmp_path / "p.csv"
@@ -1255,7 +1304,7 @@ def test_outputs(run: Run, program: Program, tmp_path: Path) -> None:
     assert entry["values"] == {"v_static_kmh": "100", "plan_kmh": "80", "km": "17.990", "km_to": "20.700"}
     assert form["rules"]["X5"]["looked_at"] == 3
     head, *rows = signed.read_text("utf-8").splitlines()
-    assert [row.split(",")[0] for row in rows] == ["X6", "X5", "X3", "X2", "X1", "X10", "X4", "X7", "X9", "X8"]
+    assert [row.split(",")[0] for row in rows] == ["X6", "X5", "X3", "X2", "X1", "X10", "X4", "X7", "X9", "X8", "X11"]
     entries = list(csv.DictReader(io.StringIO("\n".join([head, *rows]))))
     for each in entries:
         each.update(reason="as the signalling plan has it", who="me", date="2026-01-02")
@@ -1272,7 +1321,7 @@ def test_example() -> None:
     assert plan_example.plan() == (TOP / plan_example.PLAN).read_text("utf-8")
     answer = plan_example.run("check", plan_example.TABLE, "--plan", plan_example.PLAN)
     assert without_program(answer) == without_program((TOP / plan_example.ANSWER).read_text("utf-8"))
-    assert [answer.count(f": {rule.name}: ") for rule in track_plan.RULES] == [1] * 10
+    assert [answer.count(f": {rule.name}: ") for rule in track_plan.RULES] == [1] * 11
 
 
 def test_report(run: Run, tmp_path: Path) -> None:

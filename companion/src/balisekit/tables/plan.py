@@ -2,7 +2,7 @@
 
 The columns are `kind, km, km_to, track, way, value, name`, in any order:
 
-- `km`: where it is or begins, as in the table: `13.850`, `13,850` or `13+850`. An aspect needs none.
+- `km`: where it is or begins, as in the table: `13.850`, `13,850` or `13+850`. An aspect and a radio need none.
 - `km_to`: where a speed or gradient ends, a greater kilometre. Without it, it ends where the next row of its kind
   begins, and the last one never ends. Of a jump: the kilometre behind it. Restrictions, conditions and areas for
   reversing are from `km` to `km_to` too.
@@ -31,6 +31,8 @@ The columns are `kind, km, km_to, track, way, value, name`, in any order:
   - `condition`: a track condition of packet 68, `type=0` with the number of M_TRACKCOND.
   - `reversing`: an area in which trains may reverse, `v=30 distance=500` with V_REVERSE and D_REVERSE of packet 139.
   - `repositioning`: at a group that sends packet 16, `section=700` with L_SECTION in metres.
+  - `radio`: `rbc=352/17 phone=0123456`, an RBC with its telephone number or `short`, or `network=123456`, a radio
+    network. It has no kilometre.
   - `jump`: none. The kilometres jump from `km` to `km_to`.
   - `point`: none. At it trains of the row's way may leave the track.
 - `name`: of an aspect `SIGNAL/ASPECT`, by the columns `group` and `aspect` of the table, or `SIGNAL` if its one aspect
@@ -57,6 +59,8 @@ COLUMNS = ("kind", "km", "km_to", "track", "way", "value", "name")
 NEEDED = COLUMNS[:1]
 WAYS = {"rising": 1, "falling": -1, "": 0}
 WAY_WORDS = {way: word for word, way in WAYS.items()}
+WITHOUT_PLACE = ("aspect", "radio")
+"""The kinds whose rows need no kilometre."""
 STRETCHES = ("speed", "gradient")
 """The kinds that hold from one kilometre to another."""
 BORDERS = ("level", "rbc")
@@ -70,6 +74,7 @@ READERS: Mapping[str, Optional[Callable[[str], Value]]] = {
     "rbc": values.rbc,
     "group": values.group,
     **{kind: plan_things.reader(kind) for kind in plan_things.KEYS},
+    "radio": plan_things.radio,
     "jump": None,
     "point": None,
 }
@@ -201,7 +206,7 @@ def read(path: str) -> Plan:
 
 def cells(row: PlanRow) -> Sequence[str]:
     """A row as a plan writes it, in the order of COLUMNS."""
-    km = "" if row.kind == "aspect" and not row.km else kilometre(row.km)
+    km = "" if row.kind in WITHOUT_PLACE and not row.km else kilometre(row.km)
     km_to = "" if row.km_to is None else kilometre(row.km_to)
     return row.kind, km, km_to, clean(row.track), WAY_WORDS[row.way], _value_text(row), clean(row.name)
 
@@ -213,7 +218,7 @@ def _value_text(row: PlanRow) -> str:
         return values.terms_text(row.terms)
     if row.kind == "group":
         return values.group_text(row.group_terms)
-    if row.kind in plan_things.KEYS:
+    if row.kind in plan_things.KEYS or row.kind == "radio":
         return plan_things.text(row.terms)
     return "" if row.value is None else str(row.value)
 
@@ -295,7 +300,7 @@ def _row(number: int, cells: Mapping[str, str]) -> PlanRow:
 def _kilometres(kind: str, cells: Mapping[str, str]) -> Tuple[Decimal, Optional[Decimal]]:
     """Where a row begins and ends."""
     km, km_to = (_read(name, lambda text: kilometre_of(text, ""), cells) for name in ("km", "km_to"))
-    if km is None and kind != "aspect":
+    if km is None and kind not in WITHOUT_PLACE:
         raise TableError(f"empty: a {kind} needs a kilometre", column="km")
     areas = (*STRETCHES, *plan_things.WITH_LENGTH)
     if km_to is not None and kind not in (*areas, "jump"):

@@ -15,6 +15,7 @@ from balisekit.tables.plan_values import (
     length,
     metres,
     mode_length,
+    rbc,
     speed,
     speed_word,
 )
@@ -43,6 +44,32 @@ def _yes_or_no(text: str) -> str:
     return text.lower()
 
 
+def _digits(most: int) -> Callable[[str], str]:
+    """Digits as they are dialled, without those that fill them up."""
+
+    def read(text: str) -> str:
+        if not re.fullmatch(f"[0-9]{{1,{most}}}", text):
+            raise TableError(f"{text[:40] or 'nothing'} is no number: write at most {most} digits")
+        return text
+
+    return read
+
+
+def _phone(text: str) -> str:
+    return SHORT if text.lower() == SHORT else _digits(16)(text)
+
+
+def radio(text: str) -> Terms:
+    """An RBC with its telephone number, written as `rbc=352/17 phone=0123456`, or a radio network: `network=123456`."""
+    found = keyed(text, RADIO_KEYS, "empty: a radio needs a value such as rbc=352/17 phone=0123456")
+    if ("rbc" in found) == ("network" in found) or "phone" in found and "rbc" not in found:
+        raise TableError("write rbc=.. with or without phone=.., or network=..")
+    return found
+
+
+SHORT = "short"
+"""NID_RADIO of only F: the train uses the short number."""
+RADIO_KEYS: Dict[str, Reader] = {"rbc": rbc, "phone": _phone, "network": _digits(6)}
 KEYS: Mapping[str, Dict[str, Reader]] = {
     "tsr": {"v": speed, "id": _restriction, "front": _yes_or_no},
     "condition": {"type": _number(GREATEST_CONDITION, "M_TRACKCOND")},
