@@ -34,7 +34,7 @@ from balisekit.rules.line import Line as LineOfTable
 from balisekit.rules.rule import Options, Remark, Result
 from balisekit.rules.track_plan import implied_profiles
 from balisekit.rules.track_plan.implied import implied
-from balisekit.tables import messages as messages_file, plan, reader
+from balisekit.tables import messages as messages_file, plan, plan_things, reader
 
 Change = Callable[[List[Row]], Any]
 TOP = Path(__file__).resolve().parents[2]
@@ -1095,13 +1095,17 @@ def with_things(rows: List[Row]) -> None:
     fixed(rows, "Signal 3").extend([restriction(2500, 1000), condition(700, 200), *reversing(100, 400)])
     fixed(rows, "Signal 4").append(restriction(1000, 1000))
     fixed(rows, "Signal 5").extend([restriction(0, 500), raw(16, 1, bits(1, 2) + bits(1300, 15))])
+    list_for_shunting = [bits(2, 5), "0", bits(7, 14), "1", bits(351, 10), bits(8, 14)]
+    fixed(rows, "Signal 7").extend([raw(132, 1, "1"), raw(137, 1, "0"), raw(49, 1, "".join(list_for_shunting))])
     fixed(rows, "Signal 6").append(raw(66, 1, bits(7, 8)))
 
 
 THINGS = """tsr,15.500,16.500,,rising,v=40 id=7 front=no,
 condition,13.700,13.900,,rising,type=0,
 reversing,13.100,13.500,,rising,v=30 distance=500,
-repositioning,16.000,,,rising,section=1300,""".split(
+repositioning,16.000,,,rising,section=1300,
+stop_in_sr,19.000,,,rising,stop=yes,
+shunting,19.000,,,rising,"stop=no balises=352/7,351/8",""".split(
     "\n"
 )
 """The rows of a plan for them."""
@@ -1109,19 +1113,17 @@ repositioning,16.000,,,rising,section=1300,""".split(
 
 def cells_of_things() -> List[Cells]:
     """These rows by their columns."""
-    return [dict(zip(plan.COLUMNS, row.split(","))) for row in THINGS]
+    return [dict(zip(plan.COLUMNS, cells)) for cells in csv.reader(THINGS)]
 
 
 def test_the_plan_of_a_table_has_its_areas(program: Program, tmp_path: Path) -> None:
     """Each restriction once, though three groups send it and one of them only its rest."""
     line = read(program, written(program, tmp_path / "t.csv", Line(), with_things))
     rows = implied_rows(line)
-    assert [
-        row for row in rows if row["kind"] in ("tsr", "condition", "reversing", "repositioning")
-    ] == cells_of_things()
+    assert [row for row in rows if row["kind"] in plan_things.KEYS] == cells_of_things()
     found = results(line, rows, tmp_path)
     assert not [each for result in found.values() for each in result.found]
-    assert (found["X10"].looked_at, found["X10"].not_looked_at) == (7, {})
+    assert (found["X10"].looked_at, found["X10"].not_looked_at) == (9, {})
 
 
 @pytest.mark.parametrize(
@@ -1138,6 +1140,10 @@ def test_the_plan_of_a_table_has_its_areas(program: Program, tmp_path: Path) -> 
         ("reversing", {"value": "v=30 distance=400"}, "D_REVERSE: 500 m, and 400 m by row "),
         ("reversing", {"value": "v=25"}, "V_REVERSE: 30 km/h, and 25 km/h by row "),
         ("repositioning", {"value": "section=1400"}, "L_SECTION: 1300 m, and 1400 m by row "),
+        ("stop_in_sr", {"value": "stop=no"}, "Q_SRSTOP stops trains: yes, and no by row "),
+        ("stop_in_sr", {"km": "20.500"}, "it has the order for trains in SR at km 19.000, and the plan has none there"),
+        ("shunting", {"value": "stop=yes"}, "Q_ASPECT stops trains: no, and yes by row "),
+        ("shunting", {"value": "balises=352/7"}, "the balises of packet 49: 352/7,351/8, and 352/7 by row "),
     ],
 )
 def test_x10_of_another_cell(program: Program, tmp_path: Path, kind: str, cells: Cells, said: str) -> None:
@@ -1145,7 +1151,7 @@ def test_x10_of_another_cell(program: Program, tmp_path: Path, kind: str, cells:
     line = read(program, written(program, tmp_path / "t.csv", Line(), with_things))
     rows = [{**row, **cells} if row["kind"] == kind else row for row in implied_rows(line)]
     found = remarks(line, rows, tmp_path)
-    assert {each.rule for each in found} == {"X10"} and found[0].location.number, found
+    assert {each.rule for each in found} == {"X10"} and any(each.location.number for each in found), found
     assert [each.sentence for each in found if each.sentence.startswith(said)], found
 
 
@@ -1160,7 +1166,7 @@ def test_x10_of_rows_and_packets_without_another(program: Program, tmp_path: Pat
     assert found.rule == "X10" and found.location.group and found.location.group.group.name == "Signal 8"
     other = [{**row, "km": "20.000", "km_to": "20.500"} if row["kind"] == "condition" else row for row in rows]
     first, second = sorted(each.sentence for each in remarks(line, other, tmp_path))
-    assert first == "it has a track condition from km 13.700 to km 13.900, and the plan has none there"
+    assert first == "it has the track condition from km 13.700 to km 13.900, and the plan has none there"
     assert second.startswith("no packet 68 states the track condition of row ")
     assert not remarks(line, [row for row in rows if row["kind"] != "condition"], tmp_path)
     beyond = [*rows, {**of_kind(rows, "condition"), "km": "99.000", "km_to": "99.200"}]
@@ -1191,6 +1197,7 @@ def test_x10_of_a_revocation(program: Program, tmp_path: Path) -> None:
         ("repositioning,15,16,,rising,section=5,", "16: a row of this kind has one kilometre only"),
         ("repositioning,15,,,rising,,", "empty: a repositioning needs a value such as section=700"),
         ("tsr,15,16,,rising,v=40 front=1,", "front: 1 is neither yes nor no"),
+        ("shunting,15,,,rising,balises=7,", "balises: id: 7 is no identity: write NID_C/NID_BG, such as 352/17"),
     ],
 )
 def test_areas_that_mean_nothing(tmp_path: Path, row: str, why: str) -> None:
@@ -1198,6 +1205,34 @@ def test_areas_that_mean_nothing(tmp_path: Path, row: str, why: str) -> None:
     with pytest.raises(TableErrors) as raised:
         plan_of([dict(zip(plan.COLUMNS, row.split(",")))], tmp_path)
     assert [each.why for each in raised.value.faults] == [why]
+
+
+def lost_by(row: Cells, rows: List[Cells]) -> bool:
+    """Whether the loss of a row leaves others of its kind, and, of a profile, one before it that then goes on."""
+    own = [each for each in rows if each["kind"] == row["kind"]]
+    lane = [each for each in own if (each["way"], each["track"]) == (row["way"], row["track"])]
+    return row is not lane[0] if row["kind"] in ("speed", "gradient") else len(own) > 1
+
+
+def test_each_wrong_row_is_an_open_entry(program: Program, tmp_path: Path) -> None:
+    """A name that is mistyped, a value that is another one, and a row that is lost, of every kind."""
+    sound = replace(SOUND["level-border"], signals=10)
+    line = read(program, written(program, tmp_path / "t.csv", sound, with_rbc, with_things))
+    rows, tried = implied_rows(line), Counter[str]()
+    assert not remarks(line, rows, tmp_path)
+    for index, row in enumerate(rows):
+        others = {"lost": [each for each in rows if each is not row]} if lost_by(row, rows) else {}
+        number = re.search("[0-9]+", row["value"])
+        if number:
+            value = f"{row['value'][: number.start()]}{int(number[0]) + 5}{row['value'][number.end() :]}"
+            value = "1" if row["kind"] == "level" else value
+            others["value"] = [*rows[:index], {**row, "value": value}, *rows[index + 1 :]]
+        if row["kind"] in ("aspect", "group"):
+            others["name"] = [*rows[:index], {**row, "name": f"{row['name']}x"}, *rows[index + 1 :]]
+        for what, wrong in others.items():
+            assert remarks(line, wrong, tmp_path), (what, row)
+            tried[what] += 1
+    assert tried["lost"] > 60 and tried["value"] > 60 and tried["name"] > 40
 
 
 CENTRES: List[Cells] = [{**dict.fromkeys(plan.COLUMNS, ""), "kind": "radio", "value": "rbc=352/17 phone=012345"}]

@@ -11,6 +11,7 @@ from balisekit.tables.plan_values import (
     NO_END,
     Term,
     Terms,
+    identity_text,
     keyed,
     length,
     metres,
@@ -44,6 +45,11 @@ def _yes_or_no(text: str) -> str:
     return text.lower()
 
 
+def _identities(text: str) -> str:
+    """Balise groups by NID_C and NID_BG, in the order of packet 49, or `none` for an empty list."""
+    return NO_END if text.lower() == NO_END else ",".join(identity_text(word) for word in text.split(","))
+
+
 def _digits(most: int) -> Callable[[str], str]:
     """Digits as they are dialled, without those that fill them up."""
 
@@ -75,10 +81,12 @@ KEYS: Mapping[str, Dict[str, Reader]] = {
     "condition": {"type": _number(GREATEST_CONDITION, "M_TRACKCOND")},
     "reversing": {"v": speed, "distance": mode_length},
     "repositioning": {"section": length},
+    "stop_in_sr": {"stop": _yes_or_no},
+    "shunting": {"stop": _yes_or_no, "balises": _identities},
 }
 """The kinds, their keys, and how the value of each is read."""
 EXAMPLES = {"tsr": "v=40 id=12 front=no", "condition": "type=0", "reversing": "v=30 distance=500"}
-EXAMPLES["repositioning"] = "section=700"
+EXAMPLES.update(repositioning="section=700", stop_in_sr="stop=yes", shunting="stop=no balises=352/17,352/18")
 WITH_LENGTH = ("tsr", "condition", "reversing")
 """The kinds that hold from one kilometre to another one."""
 ENDING = ("tsr", "reversing")

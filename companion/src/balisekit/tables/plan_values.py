@@ -141,7 +141,13 @@ def links(text: str) -> Union[int, str]:
     """How many groups packet 5 names, or which ones in its order, as `352/17,352/18`."""
     if re.fullmatch("[0-9]{1,2}", text):
         return int(text)
-    return ",".join(f"{nid_c}/{nid_bg}" for nid_c, nid_bg in map(_identity, text.split(",")))
+    return ",".join(map(identity_text, text.split(",")))
+
+
+def identity_text(text: str) -> str:
+    """The identity of a balise group as `NID_C/NID_BG`."""
+    nid_c, nid_bg = _identity(text)
+    return f"{nid_c}/{nid_bg}"
 
 
 def signal_name(text: str) -> str:

@@ -18,7 +18,7 @@ from balisekit.tables.plan import WAY_WORDS, PlanRow
 from balisekit.tables.plan_things import LENGTH_KEYS, words
 
 WORDS = {"tsr": "temporary restriction", "condition": "track condition", "reversing": "reversing area"}
-WORDS["repositioning"] = "repositioning section"
+WORDS.update(repositioning="repositioning section", stop_in_sr="order for trains in SR", shunting="order for shunting")
 
 
 class Comparison:
@@ -37,9 +37,9 @@ class Comparison:
         """What differs in one kind, then its rows that no packet states."""
         decoded = self._placed.decoded
         self._lacking.update((kind, clean(track)) for track, _ in unread_of(decoded))
-        infill = (clean(one.track) for one in decoded.passages for each in one.infill if each.number == NUMBERS[kind])
+        infill = (clean(one.track) for one in decoded.passages for each in one.infill if each.number in NUMBERS[kind])
         self._lacking.update((kind, track) for track in infill)
-        for saying in (each for each in self._placed.sayings(NUMBERS[kind]) if not is_decoded(each)):
+        for saying in (each for each in self._placed.sayings(*NUMBERS[kind]) if not is_decoded(each)):
             self.counts[NOT_DECODED] += 1
             self._lacking.add((kind, clean(saying.passage.track)))
         for thing in things_of(self._placed, kind):
@@ -64,7 +64,7 @@ class Comparison:
         if texts:
             self._add(thing, f"{' by the plan; '.join(texts)} by {plan_words(rows[0].row, with_km=False)}", rows[0].row)
         elif not rows:
-            self._add(thing, f"it has a {WORDS[thing.kind]} {self._span(thing, start)}, and the plan has none there")
+            self._add(thing, f"it has the {WORDS[thing.kind]} {self._span(thing, start)}, and the plan has none there")
 
     def _differing(self, thing: Thing, start: Start, area: Area) -> Iterator[str]:
         """What differs in place and values, in words."""
@@ -101,7 +101,8 @@ class Comparison:
         self.counts["" if is_inside else BEYOND] += 1
         if is_inside:
             way = f" for {WAY_WORDS[row.way]} trains" if row.way else ""
-            sentence = f"no packet {NUMBERS[row.kind]} states the {WORDS[row.kind]} of {plan_words(row)}{way}"
+            numbers = " or ".join(map(str, NUMBERS[row.kind]))
+            sentence = f"no packet {numbers} states the {WORDS[row.kind]} of {plan_words(row)}{way}"
             yield Remark("X10", group.location(), sentence, values={"plan_km": row.km}, facts=[cells_of(row)])
 
     def revocations(self) -> None:

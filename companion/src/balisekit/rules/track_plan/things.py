@@ -6,14 +6,24 @@ from typing import Any, Dict, Iterator, Mapping, NamedTuple, Sequence, Tuple
 from balisekit.design.tracks import Area
 from balisekit.rules.track_plan.placed import PlacedPlan, Saying
 from balisekit.tables.plan_things import KEYS
-from balisekit.tables.plan_values import INFINITE, Term, Terms
+from balisekit.tables.plan_values import INFINITE, NO_END, Term, Terms
 
 RESTRICTION, REVOCATION, REVERSING_AREA, REVERSING = 65, 66, 138, 139
-NUMBERS = {"tsr": RESTRICTION, "condition": 68, "reversing": REVERSING_AREA, "repositioning": 16}
-"""The packet that has the place of each kind."""
+STOP_IN_SR, STOP_IN_SH, BALISES_FOR_SH = 137, 132, 49
+NUMBERS: Mapping[str, Sequence[int]] = {
+    "tsr": (RESTRICTION,),
+    "condition": (68,),
+    "reversing": (REVERSING_AREA,),
+    "repositioning": (16,),
+    "stop_in_sr": (STOP_IN_SR,),
+    "shunting": (STOP_IN_SH, BALISES_FOR_SH),
+}
+"""The packets that have the place of each kind."""
+OWN_KEYS = {STOP_IN_SR: "q_srstop", STOP_IN_SH: "q_aspect", BALISES_FOR_SH: "groups"}
+"""A key that the packet has if it fits its layout, of packets without Q_SCALE."""
 KINDS = tuple(KEYS)
 NOT_REVOCABLE, INFINITE_LENGTH = 255, 32_767
-IDENTIFYING = {"tsr": "id", "condition": "type"}
+IDENTIFYING = {"tsr": "id", "condition": "type", "stop_in_sr": "stop", "shunting": "stop"}
 """The key that tells things of one kind from each other."""
 NEAR = 500
 """In decimetres: what is as near to a row may be meant by it."""
@@ -27,6 +37,9 @@ FIELDS: Mapping[Tuple[str, str], str] = {
     ("reversing", "v"): "V_REVERSE",
     ("reversing", "distance"): "D_REVERSE",
     ("repositioning", "section"): "L_SECTION",
+    ("stop_in_sr", "stop"): "Q_SRSTOP stops trains",
+    ("shunting", "stop"): "Q_ASPECT stops trains",
+    ("shunting", "balises"): "the balises of packet 49",
 }
 
 
@@ -50,7 +63,7 @@ class Thing(NamedTuple):
 
 def things_of(placed: PlacedPlan, kind: str) -> Iterator[Thing]:
     """All things of a kind, each packet once in each direction. A packet that does not fit its layout has none."""
-    for saying in placed.sayings(NUMBERS[kind]):
+    for saying in placed.sayings(*NUMBERS[kind]):
         form: Any = saying.packet.form
         if is_decoded(saying):
             yield from READERS[kind](saying, form, saying.packet.unit)
@@ -58,7 +71,7 @@ def things_of(placed: PlacedPlan, kind: str) -> Iterator[Thing]:
 
 def is_decoded(saying: Saying) -> bool:
     """Whether a packet fits its layout."""
-    return "q_scale" in saying.packet.form
+    return OWN_KEYS.get(saying.packet.number, "q_scale") in saying.packet.form
 
 
 def _restrictions(saying: Saying, form: Any, unit: int) -> Iterator[Thing]:
@@ -92,7 +105,36 @@ def _sections(saying: Saying, form: Any, unit: int) -> Iterator[Thing]:
     yield Thing("repositioning", saying, 0, 0, {"section": form["l_section"] * unit})
 
 
+def _stop_in_sr(saying: Saying, form: Any, unit: int) -> Iterator[Thing]:
+    yield Thing("stop_in_sr", saying, 0, 0, {"stop": "no" if form["q_srstop"] else "yes"})
+
+
+def _shunting(saying: Saying, form: Any, unit: int) -> Iterator[Thing]:
+    """What both packets of a passage say of shunting, at the first of them."""
+    passage = saying.passage
+    terms: Dict[str, Term] = {}
+    own = [each for each in passage.of(STOP_IN_SH, BALISES_FOR_SH) if OWN_KEYS[each.number] in each.form]
+    if not own or own[0] is not saying.packet:
+        return
+    for each in own:
+        more: Any = each.form
+        if each.number == STOP_IN_SH:
+            terms["stop"] = "no" if more["q_aspect"] else "yes"
+        else:
+            country = passage.group.group.identity[0] if passage.group and passage.group.group.identity else 0
+            terms["balises"] = ",".join(_identities(country, more["groups"])) or NO_END
+    yield Thing("shunting", saying, 0, 0, terms)
+
+
+def _identities(country: int, groups: Any) -> Iterator[str]:
+    """The groups of a packet 49. One without NID_C has that of the one before it, or of the sender."""
+    for each in groups:
+        country = each.get("nid_c", country)
+        yield f"{country}/{each['nid_bg']}"
+
+
 READERS = {"tsr": _restrictions, "condition": _conditions, "reversing": _areas, "repositioning": _sections}
+READERS.update(stop_in_sr=_stop_in_sr, shunting=_shunting)
 
 
 def meant(thing: Thing, areas: Sequence[Area]) -> Sequence[Area]:

@@ -8,6 +8,8 @@ packet states. It rests on SUBSET-026, 7.4.2 and 7.5.1.
 - Rows `condition`: the rule compares the beginning, the end and M_TRACKCOND of each condition of packet 68.
 - Rows `reversing`: the rule compares the area of packet 138 with V_REVERSE and D_REVERSE of packet 139.
 - Rows `repositioning`: the rule compares L_SECTION of packet 16. The row is at the group that sends it.
+- Rows `stop_in_sr` and `shunting`: the rule compares Q_SRSTOP of packet 137, Q_ASPECT of packet 132, and the balises of
+  packet 49. The row is at the group that sends them. A group with "stop" and "go" by its aspects has two rows.
 - A kind of which the plan has no row is not compared. What the row does not state is not compared either.
 - A packet is compared with the row of its NID_TSR that is at most 20 km away, or else with the nearest row within
   50 m.
