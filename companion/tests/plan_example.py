@@ -33,6 +33,10 @@ CHANGES: List[Tuple[str, str, str, str, str]] = [
 """The changed cells: for each the row that it is in, by kind and a cell, and its column and text."""
 ADDED = {"kind": "signal", "km": "13.700", "way": "rising", "name": "Signal 3a"}
 """A row at which no authority ends, after the last other one of its kind."""
+RESTRICTION = {"kind": "tsr", "km": "19.000", "km_to": "19.500", "way": "rising", "value": "v=40 id=7"}
+"""A row that no packet 65 states."""
+CENTRE = {"kind": "radio", "value": "rbc=352/17 phone=0123456"}
+"""A row that no packet 42 or 131 names."""
 
 
 def rows_of(text: str) -> List[Cells]:
@@ -57,7 +61,7 @@ def plan() -> str:
         row[column] = value
     last = max(index for index, row in enumerate(rows) if row["kind"] == ADDED["kind"])
     rows.insert(last + 1, {**dict.fromkeys(rows[0], ""), **ADDED})
-    return text_of(rows)
+    return text_of([*rows, *({**dict.fromkeys(rows[0], ""), **each} for each in (RESTRICTION, CENTRE))])
 
 
 def run(*words: str) -> str:

@@ -35,7 +35,7 @@ from balisekit.rules.rule import Options, Remark, Result
 from balisekit.rules.track_plan import implied_profiles
 from balisekit.rules.track_plan.implied import implied
 from balisekit.rules.track_plan.x5_borders import UNSURE
-from balisekit.tables import messages as messages_file, plan, reader
+from balisekit.tables import messages as messages_file, plan, plan_things, reader
 
 Change = Callable[[List[Row]], Any]
 TOP = Path(__file__).resolve().parents[2]
@@ -694,6 +694,8 @@ def test_one_thing_is_named_by_the_singular() -> None:
         "1 name of the plan",
         "1 statement about groups",
         "1 name of the table",
+        "1 area of the plan",
+        "1 radio centre of the plan",
     ]
 
 
@@ -915,7 +917,7 @@ def test_x6_of_a_signal(program: Program, tmp_path: Path, metres: int, is_named:
     """Within the table it is reported at the nearest group. At the first one and beyond the last one it is counted."""
     line = read(program, written(program, tmp_path / "t.csv"))
     found = results(line, farther(metres, "signal", implied_rows(line)), tmp_path)
-    assert [len(found[name].found) for name in found] == [0, 0, 0, 0, 0, is_named, 0, 0, 0]
+    assert [len(found[name].found) for name in found] == [0, 0, 0, 0, 0, is_named, 0, 0, 0, 0, 0]
     assert found["X6"].not_looked_at == ({} if is_named else {"beyond the table": 1})
     for each in found["X6"].found:
         assert each.sentence.startswith(f"no authority ends at the signal of row {len(implied_rows(line)) + 2} of the ")
@@ -1071,6 +1073,217 @@ def test_x8_of_jumps(program: Program, tmp_path: Path) -> None:
     assert {each.rule for each in remarks(line, [row for row in rows if row["kind"] != "jump"], tmp_path)} >= {"X8"}
 
 
+def restriction(place: int, length: int, kmh: int = 40, number: int = 7, front: int = 0) -> Any:
+    """A packet 65 with a scale of 1 m."""
+    content = [bits(1, 2), bits(number, 8), bits(place, 15), bits(length, 15), bits(front, 1), bits(kmh // 5, 7)]
+    return raw(65, 1, "".join(content))
+
+
+def condition(place: int, length: int, kind: int = 0) -> Any:
+    """A packet 68 with one condition."""
+    content = [bits(1, 2), "0", bits(place, 15), bits(length, 15), bits(kind, 4), bits(0, 5)]
+    return raw(68, 1, "".join(content))
+
+
+def reversing(place: int, length: int, kmh: int = 30, distance: int = 500) -> List[Any]:
+    """A packet 138 and a packet 139."""
+    area = raw(138, 1, "".join([bits(1, 2), bits(place, 15), bits(length, 15)]))
+    return [area, raw(139, 1, "".join([bits(1, 2), bits(distance, 15), bits(kmh // 5, 7)]))]
+
+
+def with_things(rows: List[Row]) -> None:
+    """Signals 3 and 4 announce a restriction, which Signal 5 is within, and Signal 6 revokes it."""
+    fixed(rows, "Signal 3").extend([restriction(2500, 1000), condition(700, 200), *reversing(100, 400)])
+    fixed(rows, "Signal 4").append(restriction(1000, 1000))
+    fixed(rows, "Signal 5").extend([restriction(0, 500), raw(16, 1, bits(1, 2) + bits(1300, 15))])
+    list_for_shunting = [bits(2, 5), "0", bits(7, 14), "1", bits(351, 10), bits(8, 14)]
+    fixed(rows, "Signal 7").extend([raw(132, 1, "1"), raw(137, 1, "0"), raw(49, 1, "".join(list_for_shunting))])
+    fixed(rows, "Signal 6").append(raw(66, 1, bits(7, 8)))
+
+
+THINGS = """tsr,15.500,16.500,,rising,v=40 id=7 front=no,
+condition,13.700,13.900,,rising,type=0,
+reversing,13.100,13.500,,rising,v=30 distance=500,
+repositioning,16.000,,,rising,section=1300,
+stop_in_sr,19.000,,,rising,stop=yes,
+shunting,19.000,,,rising,"stop=no balises=352/7,351/8",""".split(
+    "\n"
+)
+"""The rows of a plan for them."""
+
+
+def cells_of_things() -> List[Cells]:
+    """These rows by their columns."""
+    return [dict(zip(plan.COLUMNS, cells)) for cells in csv.reader(THINGS)]
+
+
+def test_the_plan_of_a_table_has_its_areas(program: Program, tmp_path: Path) -> None:
+    """Each restriction once, though three groups send it and one of them only its rest."""
+    line = read(program, written(program, tmp_path / "t.csv", Line(), with_things))
+    rows = implied_rows(line)
+    assert [row for row in rows if row["kind"] in plan_things.KEYS] == cells_of_things()
+    found = results(line, rows, tmp_path)
+    assert not [each for result in found.values() for each in result.found]
+    assert (found["X10"].looked_at, found["X10"].not_looked_at) == (9, {})
+
+
+@pytest.mark.parametrize(
+    "kind, cells, said",
+    [
+        ("tsr", {"value": "v=60 id=7"}, "V_TSR: 40 km/h, and 60 km/h by row "),
+        ("tsr", {"value": "v=40 id=8"}, "NID_TSR: 7, and 8 by row "),
+        ("tsr", {"value": "v=40 id=none"}, "NID_TSR: 7, and none by row "),
+        ("tsr", {"value": "v=40 front=yes"}, "Q_FRONT ends the speed at the front: no, and yes by row "),
+        ("tsr", {"km": "15.550"}, "the temporary restriction begins at km 15.500, and at km 15.550 by row "),
+        ("tsr", {"km_to": "16.550"}, "the temporary restriction ends at km 16.500, and at km 16.550 by row "),
+        ("condition", {"value": "type=3"}, "M_TRACKCOND: 0, and 3 by row "),
+        ("condition", {"km": "13.690"}, "the track condition begins at km 13.700, and at km 13.690 by row "),
+        ("reversing", {"value": "v=30 distance=400"}, "D_REVERSE: 500 m, and 400 m by row "),
+        ("reversing", {"value": "v=25"}, "V_REVERSE: 30 km/h, and 25 km/h by row "),
+        ("repositioning", {"value": "section=1400"}, "L_SECTION: 1300 m, and 1400 m by row "),
+        ("stop_in_sr", {"value": "stop=no"}, "Q_SRSTOP stops trains: yes, and no by row "),
+        ("stop_in_sr", {"km": "20.500"}, "it has the order for trains in SR at km 19.000, and the plan has none there"),
+        ("shunting", {"value": "stop=yes"}, "Q_ASPECT stops trains: no, and yes by row "),
+        ("shunting", {"value": "balises=352/7"}, "the balises of packet 49: 352/7,351/8, and 352/7 by row "),
+    ],
+)
+def test_x10_of_another_cell(program: Program, tmp_path: Path, kind: str, cells: Cells, said: str) -> None:
+    """Each cell and key is compared with the packets of all groups that state it."""
+    line = read(program, written(program, tmp_path / "t.csv", Line(), with_things))
+    rows = [{**row, **cells} if row["kind"] == kind else row for row in implied_rows(line)]
+    found = remarks(line, rows, tmp_path)
+    assert {each.rule for each in found} == {"X10"} and any(each.location.number for each in found), found
+    assert [each.sentence for each in found if each.sentence.startswith(said)], found
+
+
+def test_x10_of_rows_and_packets_without_another(program: Program, tmp_path: Path) -> None:
+    """A row that no packet states, and a packet that no row has, if the plan has any row of the kind."""
+    line = read(program, written(program, tmp_path / "t.csv", Line(), with_things))
+    rows = implied_rows(line)
+    more = [*rows, {**of_kind(rows, "tsr"), "km": "20.000", "km_to": "20.500", "value": "v=40 id=9"}]
+    (found,) = remarks(line, more, tmp_path)
+    where = f"row {len(more) + 1} of the plan, km 20.000 for rising trains"
+    assert found.sentence == f"no packet 65 states the temporary restriction of {where}"
+    assert found.rule == "X10" and found.location.group and found.location.group.group.name == "Signal 8"
+    other = [{**row, "km": "20.000", "km_to": "20.500"} if row["kind"] == "condition" else row for row in rows]
+    first, second = sorted(each.sentence for each in remarks(line, other, tmp_path))
+    assert first == "it has the track condition from km 13.700 to km 13.900, and the plan has none there"
+    assert second.startswith("no packet 68 states the track condition of row ")
+    assert not remarks(line, [row for row in rows if row["kind"] != "condition"], tmp_path)
+    beyond = [*rows, {**of_kind(rows, "condition"), "km": "99.000", "km_to": "99.200"}]
+    assert results(line, beyond, tmp_path)["X10"].not_looked_at == {"beyond the table": 1}
+
+
+def test_x10_of_a_revocation(program: Program, tmp_path: Path) -> None:
+    """A packet 66 needs a row with its number."""
+
+    def other_number(rows: List[Row]) -> None:
+        with_things(rows)
+        fixed(rows, "Signal 6")[-1] = raw(66, 1, bits(8, 8))
+
+    line = read(program, written(program, tmp_path / "t.csv", Line(), other_number))
+    (found,) = remarks(line, [*implied_rows(line)], tmp_path)
+    assert found.sentence == "NID_TSR is 8, and no row tsr of the plan has this number"
+    assert found.location.number == 66
+
+
+@pytest.mark.parametrize(
+    "row, why",
+    [
+        ("tsr,15,,,rising,v=40,", "empty: a tsr needs the kilometre at its other end"),
+        ("tsr,15,16,,rising,id=7 id=8,", "id is given twice"),
+        ("tsr,15,16,,rising,id=255,", "id: 255 is no NID_TSR: write a number of at most 254"),
+        ("condition,15,16,,rising,type=16,", "type: 16 is no M_TRACKCOND: write a number of at most 15"),
+        ("reversing,15,16,,rising,speed=5,", "speed=5 is none of v=.., distance=.."),
+        ("repositioning,15,16,,rising,section=5,", "16: a row of this kind has one kilometre only"),
+        ("repositioning,15,,,rising,,", "empty: a repositioning needs a value such as section=700"),
+        ("tsr,15,16,,rising,v=40 front=1,", "front: 1 is neither yes nor no"),
+        ("shunting,15,,,rising,balises=7,", "balises: id: 7 is no identity: write NID_C/NID_BG, such as 352/17"),
+    ],
+)
+def test_areas_that_mean_nothing(tmp_path: Path, row: str, why: str) -> None:
+    """They are refused with what to write."""
+    with pytest.raises(TableErrors) as raised:
+        plan_of([dict(zip(plan.COLUMNS, row.split(",")))], tmp_path)
+    assert [each.why for each in raised.value.faults] == [why]
+
+
+def lost_by(row: Cells, rows: List[Cells]) -> bool:
+    """Whether the loss of a row leaves others of its kind, and, of a profile, one before it that then goes on."""
+    own = [each for each in rows if each["kind"] == row["kind"]]
+    lane = [each for each in own if (each["way"], each["track"]) == (row["way"], row["track"])]
+    return row is not lane[0] if row["kind"] in ("speed", "gradient") else len(own) > 1
+
+
+def test_each_wrong_row_is_an_open_entry(program: Program, tmp_path: Path) -> None:
+    """A name that is mistyped, a value that is another one, and a row that is lost, of every kind."""
+    sound = replace(SOUND["level-border"], signals=10)
+    line = read(program, written(program, tmp_path / "t.csv", sound, with_rbc, with_things))
+    rows, tried = implied_rows(line), Counter[str]()
+    assert not remarks(line, rows, tmp_path)
+    for index, row in enumerate(rows):
+        others = {"lost": [each for each in rows if each is not row]} if lost_by(row, rows) else {}
+        number = re.search("[0-9]+", row["value"])
+        if number:
+            value = f"{row['value'][: number.start()]}{int(number[0]) + 5}{row['value'][number.end() :]}"
+            value = "1" if row["kind"] == "level" else value
+            others["value"] = [*rows[:index], {**row, "value": value}, *rows[index + 1 :]]
+        if row["kind"] in ("aspect", "group"):
+            others["name"] = [*rows[:index], {**row, "name": f"{row['name']}x"}, *rows[index + 1 :]]
+        for what, wrong in others.items():
+            assert remarks(line, wrong, tmp_path), (what, row)
+            tried[what] += 1
+    assert tried["lost"] > 60 and tried["value"] > 60 and tried["name"] > 40
+
+
+CENTRES: List[Cells] = [{**dict.fromkeys(plan.COLUMNS, ""), "kind": "radio", "value": "rbc=352/17 phone=012345"}]
+NETWORK: Cells = {**CENTRES[0], "value": "network=123456"}
+
+
+def with_numbers(rows: List[Row]) -> None:
+    """Two packets 42 with one number, a packet 131 with the short number, and a packet 45."""
+    digits = f"{int('012345' + 'f' * 10, 16):064b}"
+    for group in ("Signal 3", "Signal 4"):
+        fixed(rows, group).append(raw(42, 1, "".join(["1", bits(352, 10), bits(17, 14), digits, "0"])))
+    fixed(rows, "Signal 4").append(raw(45, 1, bits(0x123456, 24)))
+
+
+def test_x11_of_sound_packets(program: Program, tmp_path: Path) -> None:
+    """The number is that of the plan, and a plan without such rows compares nothing."""
+    line = read(program, written(program, tmp_path / "t.csv", Line(), with_numbers))
+    rows = implied_rows(line)
+    found = results(line, [*rows, *CENTRES, NETWORK], tmp_path)["X11"]
+    assert (found.found, found.looked_at, found.not_looked_at) == ([], 3, {})
+    found = results(line, [*rows, *CENTRES], tmp_path)["X11"]
+    assert (found.found, found.looked_at, found.not_looked_at) == ([], 2, {"the plan says nothing": 1})
+    assert results(line, rows, tmp_path)["X11"].looked_at == 0
+
+
+@pytest.mark.parametrize(
+    "value, said, unnamed",
+    [
+        ("rbc=352/17 phone=012346", "NID_RADIO of the RBC 352/17 is 012345, and 012346 by row ", ""),
+        ("rbc=352/17 phone=short", "NID_RADIO of the RBC 352/17 is 012345, and short by row ", ""),
+        ("rbc=352/18", "NID_C and NID_RBC are 352/17, and no row of the plan has it", "RBC 352/18"),
+        ("network=123457", "NID_MN is 123456, and no row of the plan has it", "network 123457"),
+    ],
+)
+def test_x11_of_another_value(program: Program, tmp_path: Path, value: str, said: str, unnamed: str) -> None:
+    """All packets that differ alike are one remark. A row that no packet names is at no group."""
+    line = read(program, written(program, tmp_path / "t.csv", Line(), with_numbers))
+    found = remarks(line, [*implied_rows(line), {**CENTRES[0], "value": value}], tmp_path)
+    assert {each.rule for each in found} == {"X11"} and found[0].sentence.startswith(said), found
+    assert [each.location.listed for each in found[1:]] == ([unnamed] if unnamed else [])
+    assert len(found[0].also) == (0 if "network" in value else 1)
+
+
+@pytest.mark.parametrize("value", ["phone=12", "network=12 rbc=352/17", "network=1234567", "rbc=352/17 phone=abc"])
+def test_radio_rows_that_mean_nothing(tmp_path: Path, value: str) -> None:
+    """They are refused."""
+    with pytest.raises(TableErrors):
+        plan_of([{**CENTRES[0], "value": value}], tmp_path)
+
+
 def test_options(run: Run, program: Program, tmp_path: Path) -> None:
     """The plan may be stated in balisekit.toml. Rules X need one."""
     path, file = written(program, tmp_path / "t.csv"), tmp_path / "p.csv"
@@ -1129,7 +1342,7 @@ def test_outputs(run: Run, program: Program, tmp_path: Path) -> None:
     assert entry["values"] == {"v_static_kmh": "100", "plan_kmh": "80", "km": "17.990", "km_to": "20.700"}
     assert form["rules"]["X5"]["looked_at"] == 3
     head, *rows = signed.read_text("utf-8").splitlines()
-    assert [row.split(",")[0] for row in rows] == ["X6", "X5", "X3", "X2", "X1", "X4", "X7", "X9", "X8"]
+    assert [row.split(",")[0] for row in rows] == ["X6", "X5", "X3", "X2", "X1", "X10", "X4", "X7", "X9", "X8", "X11"]
     entries = list(csv.DictReader(io.StringIO("\n".join([head, *rows]))))
     for each in entries:
         each.update(reason="as the signalling plan has it", who="me", date="2026-01-02")
@@ -1146,7 +1359,7 @@ def test_example() -> None:
     assert plan_example.plan() == (TOP / plan_example.PLAN).read_text("utf-8")
     answer = plan_example.run("check", plan_example.TABLE, "--plan", plan_example.PLAN)
     assert without_program(answer) == without_program((TOP / plan_example.ANSWER).read_text("utf-8"))
-    assert [answer.count(f": {rule.name}: ") for rule in track_plan.RULES] == [1] * 9
+    assert [answer.count(f": {rule.name}: ") for rule in track_plan.RULES] == [1] * 11
 
 
 def test_report(run: Run, tmp_path: Path) -> None:

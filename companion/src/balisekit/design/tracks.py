@@ -44,6 +44,15 @@ class Spot(NamedTuple):
     place: int
 
 
+class Area(NamedTuple):
+    """What a row of the plan states between two distances from a group, as its trains pass it."""
+
+    row: PlanRow
+    begin: int
+    end: int
+    """The same as the beginning for a row with one place."""
+
+
 class Element(NamedTuple):
     """What a profile of a group has to say between two distances from it, and the row of the design that says so."""
 
@@ -120,6 +129,13 @@ class Tracks:
             return self.chainage(row.track).places(row.km)
         place = self.place(row.track, row.km)
         return [] if place is None else [place]
+
+    def areas(self, kind: str, start: Start) -> Iterator[Area]:
+        """What the rows of a kind state for the trains that pass a group, of the whole track."""
+        for row in self._plan.places(kind, start.track, start.way):
+            ends = self.place(row.track, row.km), self.place(row.track, row.km if row.km_to is None else row.km_to)
+            if ends[0] is not None and ends[1] is not None:
+                yield Area(row, *sorted(start.way * (place - start.place) for place in ends if place is not None))
 
     def is_lost(self, kind: str, start: Start, place: int, tolerance: int) -> bool:
         """Whether a row without one place may be at this place: a jump repeats its kilometre."""

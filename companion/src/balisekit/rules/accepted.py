@@ -70,7 +70,7 @@ UNNAMED = "\0"
 EARLIEST = datetime.date(2000, 1, 1)
 ONE_DAY = datetime.timedelta(days=1)
 """How much later than the day of the run, in universal time, the day of a signature may be."""
-LISTED = ("X7",)
+LISTED = ("X7", "X11")
 """The rules that remark on what only the track plan has. An entry has its name as aspect, and no identity."""
 ONE_TELEGRAM = ("F1", "F4", "F6", "F9", "L1", "L2", "L3", "L5", "L6", "L9")
 """The findings and remarks about one telegram only."""

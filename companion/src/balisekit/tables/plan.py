@@ -2,9 +2,10 @@
 
 The columns are `kind, km, km_to, track, way, value, name`, in any order:
 
-- `km`: where it is or begins, as in the table: `13.850`, `13,850` or `13+850`. An aspect needs none.
+- `km`: where it is or begins, as in the table: `13.850`, `13,850` or `13+850`. An aspect and a radio need none.
 - `km_to`: where a speed or gradient ends, a greater kilometre. Without it, it ends where the next row of its kind
-  begins, and the last one never ends. Of a jump: the kilometre behind it.
+  begins, and the last one never ends. Of a jump: the kilometre behind it. Restrictions, conditions and areas for
+  reversing are from `km` to `km_to` too.
 - `track`: the track's name, as in the table.
 - `way`: `rising` or `falling`, for trains for which the kilometres go that way. Without it for both.
 - `value`, by the kind:
@@ -25,6 +26,16 @@ The columns are `kind, km, km_to, track, way, value, name`, in any order:
   - `group`: `id=352/17 balises=2 linked=yes at=12.300,12.303`. NID_C and NID_BG; how many balises it has; Q_LINK; the
     kilometres of its balises in the order of N_PIG. `km` is that of the first one, and `way` that of the nominal
     direction. A key that is missing is not compared.
+  - `tsr`: a temporary speed restriction, `v=40 id=12 front=no`: V_TSR in km/h; NID_TSR, or `none` if it cannot be
+    revoked; and whether the speed only holds until the front of the train passes its end (Q_FRONT 1).
+  - `condition`: a track condition of packet 68, `type=0` with the number of M_TRACKCOND.
+  - `reversing`: an area in which trains may reverse, `v=30 distance=500` with V_REVERSE and D_REVERSE of packet 139.
+  - `repositioning`: at a group that sends packet 16, `section=700` with L_SECTION in metres.
+  - `stop_in_sr`: at a group that sends packet 137, `stop=yes` for Q_SRSTOP 0, or `stop=no`.
+  - `shunting`: at a group that sends packet 132 or 49, `stop=no balises=352/17,352/18`. `stop=yes` is Q_ASPECT 0, and
+    the balises are those that trains may pass, in the order of packet 49, or `none`.
+  - `radio`: `rbc=352/17 phone=0123456`, an RBC with its telephone number or `short`, or `network=123456`, a radio
+    network. It has no kilometre.
   - `jump`: none. The kilometres jump from `km` to `km_to`.
   - `point`: none. At it trains of the row's way may leave the track.
 - `name`: of an aspect `SIGNAL/ASPECT`, by the columns `group` and `aspect` of the table, or `SIGNAL` if its one aspect
@@ -40,7 +51,7 @@ from typing import Callable, Dict, Iterable, Iterator, List, Mapping, NamedTuple
 from balisekit.errors import TableError, TableErrors, faults_of
 from balisekit.io import inputs
 from balisekit.io.csv_writing import plain
-from balisekit.tables import csv as csv_file, decimal_commas, plan_values as values
+from balisekit.tables import csv as csv_file, decimal_commas, plan_things, plan_values as values
 from balisekit.tables.cells import GREATEST_NAME, Sheet, is_error, kind_and_text
 from balisekit.tables.headings import Headings, alike, compared, look_at_cells
 from balisekit.tables.names import clean, kilometre, rows_words
@@ -52,6 +63,8 @@ COLUMNS = ("kind", "km", "km_to", "track", "way", "value", "name")
 NEEDED = COLUMNS[:1]
 WAYS = {"rising": 1, "falling": -1, "": 0}
 WAY_WORDS = {way: word for word, way in WAYS.items()}
+WITHOUT_PLACE = ("aspect", "radio")
+"""The kinds whose rows need no kilometre."""
 STRETCHES = ("speed", "gradient")
 """The kinds that hold from one kilometre to another."""
 BORDERS = ("level", "rbc")
@@ -64,6 +77,8 @@ READERS: Mapping[str, Optional[Callable[[str], Value]]] = {
     "level": values.levels,
     "rbc": values.rbc,
     "group": values.group,
+    **{kind: plan_things.reader(kind) for kind in plan_things.KEYS},
+    "radio": plan_things.radio,
     "jump": None,
     "point": None,
 }
@@ -131,7 +146,7 @@ class PlanRow(NamedTuple):
 
     @property
     def terms(self) -> Terms:
-        """The value of an aspect."""
+        """The value of an aspect, and of all other kinds with keys except groups."""
         assert isinstance(self.value, dict)
         return self.value
 
@@ -269,7 +284,7 @@ def refuse_clashes(rows: Sequence[PlanRow]) -> None:
 
 def cells(row: PlanRow) -> Sequence[str]:
     """A row as a plan writes it, in the order of COLUMNS."""
-    km = "" if row.kind == "aspect" and not row.km else kilometre(row.km)
+    km = "" if row.kind in WITHOUT_PLACE and not row.km else kilometre(row.km)
     km_to = "" if row.km_to is None else kilometre(row.km_to)
     return row.kind, km, km_to, clean(row.track), WAY_WORDS[row.way], _value_text(row), clean(row.name)
 
@@ -281,6 +296,8 @@ def _value_text(row: PlanRow) -> str:
         return values.terms_text(row.terms)
     if row.kind == "group":
         return values.group_text(row.group_terms)
+    if row.kind in plan_things.KEYS or row.kind == "radio":
+        return plan_things.text(row.terms)
     return "" if row.value is None else str(row.value)
 
 
@@ -370,13 +387,15 @@ def _row(number: int, cells: Mapping[str, str]) -> PlanRow:
 def _kilometres(kind: str, cells: Mapping[str, str]) -> Tuple[Decimal, Optional[Decimal]]:
     """Where a row begins and ends."""
     km, km_to = (_read(name, lambda text: kilometre_of(text, ""), cells) for name in ("km", "km_to"))
-    if km is None and kind != "aspect":
+    if km is None and kind not in WITHOUT_PLACE:
         raise TableError(f"empty: a {kind} needs a kilometre", column="km")
-    if km_to is not None and kind not in (*STRETCHES, "jump"):
+    areas = (*STRETCHES, *plan_things.WITH_LENGTH)
+    if km_to is not None and kind not in (*areas, "jump"):
         raise TableError(f"{cells['km_to']}: a row of this kind has one kilometre only", column="km_to")
-    if km_to is None and kind == "jump":
-        raise TableError("empty: a jump needs the kilometre after it", column="km_to")
-    if km is not None and km_to is not None and (km_to == km or km_to < km and kind in STRETCHES):
+    if km_to is None and kind in ("jump", *plan_things.ENDING):
+        what = "the kilometre after it" if kind == "jump" else "the kilometre at its other end"
+        raise TableError(f"empty: a {kind} needs {what}", column="km_to")
+    if km is not None and km_to is not None and (km_to == km or km_to < km and kind in areas):
         why = f"{kilometre(km_to)} is {'the same as' if km_to == km else 'before'} km {kilometre(km)}"
         raise TableError(why, column="km_to")
     return km or Decimal(), km_to

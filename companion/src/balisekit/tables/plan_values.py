@@ -141,7 +141,13 @@ def links(text: str) -> Union[int, str]:
     """How many groups packet 5 names, or which ones in its order, as `352/17,352/18`."""
     if re.fullmatch("[0-9]{1,2}", text):
         return int(text)
-    return ",".join(f"{nid_c}/{nid_bg}" for nid_c, nid_bg in map(_identity, text.split(",")))
+    return ",".join(map(identity_text, text.split(",")))
+
+
+def identity_text(text: str) -> str:
+    """The identity of a balise group as `NID_C/NID_BG`."""
+    nid_c, nid_bg = _identity(text)
+    return f"{nid_c}/{nid_bg}"
 
 
 def signal_name(text: str) -> str:
@@ -183,22 +189,28 @@ OTHER_KEYS = ("authority", "mode", "stop", "links")
 
 def terms(text: str) -> Terms:
     """What an aspect gives, written as `v=120 end=1400 overlap=100 release=20`. A missing key is not compared."""
+    found = keyed(text, ASPECT_KEYS, "empty: an aspect needs a value such as v=120 end=1400 overlap=100 release=20")
+    if "authority" in found and not found.keys() <= {*OTHER_KEYS}:
+        raise TableError("authority: with authority=none there is no other key of a packet 12")
+    return found
+
+
+def keyed(text: str, keys: Mapping[str, Callable[[str], Term]], if_empty: str) -> Dict[str, Term]:
+    """The values of these keys in a text. TableError is raised for any other key, and for none."""
     found: Dict[str, Term] = {}
     for part in _parts(text):
         key, equals, value = part.partition("=")
         key = key.lower()
-        if key not in ASPECT_KEYS or not equals:
-            raise TableError(f"{_shown(part)} is none of {', '.join(f'{name}=..' for name in ASPECT_KEYS)}")
+        if key not in keys or not equals:
+            raise TableError(f"{_shown(part)} is none of {', '.join(f'{name}=..' for name in keys)}")
         if key in found:
             raise TableError(f"{key} is given twice")
         try:
-            found[key] = ASPECT_KEYS[key](value)
+            found[key] = keys[key](value)
         except TableError as fault:
             raise TableError(f"{key}: {fault.why}") from fault
     if not found:
-        raise TableError("empty: an aspect needs a value such as v=120 end=1400 overlap=100 release=20")
-    if "authority" in found and not found.keys() <= {*OTHER_KEYS}:
-        raise TableError("authority: with authority=none there is no other key of a packet 12")
+        raise TableError(if_empty)
     return found
 
 

@@ -12,10 +12,10 @@ from balisekit.rules.line import Line
 from balisekit.rules.passed_over import PassedOver, Rules, behind_infill, notes_of
 
 RULES = rules_of(__name__, __path__)
-OF_PLACES = Rules("X1 to X3, X5 and X6", "X1 to X3, X5 and X6")
+OF_PLACES = Rules("X1 to X3, X5, X6 and X10", "X1 to X3, X5, X6 and X10")
 """What needs the kilometre of a group, and its direction. X4 needs them for rows with a way, and X7 needs none."""
-NO_TRACK = "no track, although other groups have one, so X1 to X3, X5 and X6 compare it with no row that has a track"
-IN_PLAN = frozenset({12, 15, 21, 27, 41, 42, 46, 131})
+NO_TRACK = "no track, though other groups have one, so X1 to X3, X5, X6 and X10 compare it with no row that has a track"
+IN_PLAN = frozenset({12, 15, 16, 21, 27, 41, 42, 46, 49, 65, 66, 68, 131, 132, 137, 138, 139})
 """The packets that are compared with a plan."""
 
 

@@ -44,7 +44,7 @@ COMPARED: Mapping[int, Tuple[str, Tuple[str, ...]]] = {
 }
 """By NID_PACKET: the kind of a design that states what a packet says, and the variables that it states."""
 NOT_TOLD = "no telegram can be compared with it"
-NOT_STATED, NO_KIND = "no row of the design states it", "the design has no kind for it"
+NOT_STATED, NO_KIND = "no row of the design states it", "no kind of row is counted for it"
 NO_ROW = "the design has no row of this kind"
 OF_WAY = "it states where kilometres or trains go, and no telegram states it"
 

@@ -10,10 +10,12 @@ from collections import Counter
 from decimal import Decimal
 from typing import Dict, Iterator, List, NamedTuple, Sequence, Tuple
 
+from balisekit.design.tracks import Tracks
 from balisekit.rules.line import Line
 from balisekit.rules.passages import GroupData, Passage
 from balisekit.rules.rule import Options
 from balisekit.rules.telegrams import AUTHORITIES, allowance
+from balisekit.rules.track_plan import things
 from balisekit.rules.track_plan.borders import NOT_DECODED, NUMBERS, Border, border_of
 from balisekit.rules.track_plan.implied_profiles import Lane, on_track_up_to, profiles
 from balisekit.rules.track_plan.placed import NO_PLACE, PlacedPlan, Saying
@@ -21,6 +23,7 @@ from balisekit.rules.track_plan.stretches import KINDS, compare
 from balisekit.rules.track_plan.x3_ends import gives_way
 from balisekit.rules.track_plan.aspect_terms import AUTHORITY, terms_of
 from balisekit.tables.plan import BORDERS, Plan, PlanRow, aspect_name
+from balisekit.tables.plan_things import ENDING
 from balisekit.tables.plan_values import GroupTerms, Value
 
 NEAR = 500
@@ -60,6 +63,7 @@ def implied(line: Line, options: Options) -> Made:
         *borders,
         *points,
         *_groups(placed),
+        *(row for kind in things.KINDS for row in _things(line, options, kind, points, skipped)),
     ]
     numbered = [row._replace(number=number) for number, row in enumerate(rows, 2)]
     return Made(numbered, [f"{count} packets are not in the plan: {why}" for why, count in skipped.items()])
@@ -176,6 +180,30 @@ def _groups(placed: PlacedPlan) -> Iterator[PlanRow]:
             at = tuple(kilometres) if len(kilometres) == header.n_total + 1 > 1 else ()
             terms = GroupTerms((header.nid_c, header.nid_bg), header.n_total + 1, bool(header.q_link), at)
             yield PlanRow(0, "group", own.km, None, own.track, own.rising or 0, terms, own.group.name)
+
+
+def _things(
+    line: Line, options: Options, kind: str, points: Sequence[PlanRow], skipped: Dict[str, int]
+) -> Iterator[PlanRow]:
+    """The restrictions, conditions or areas of a kind, each once. What a group within one says of it adds no row."""
+    placed = PlacedPlan(line, options._replace(plan=Plan(rows=tuple(points))))
+    rows: List[PlanRow] = []
+    for thing in things.things_of(placed, kind):
+        start = placed.start(thing.saying.passage)
+        has_length = thing.end > thing.begin
+        if start is None or kind in ENDING and not has_length:
+            skipped[NO_PLACE] += 1
+            continue
+        known = list(Tracks(Plan(rows=tuple(rows)), options.jumps).areas(kind, start))
+        allowed = placed.decoded.tolerance(options.tolerance, allowance(thing.saying.packet, thing.lengths + 1))
+        same = (each for each in known if each.row.terms == thing.terms)
+        if any(not any(things.places_differ(thing, each, (allowed, allowed))) for each in same):
+            continue
+        if not placed.is_behind_point(thing.saying.passage, start.at(thing.end)) and thing.terms:
+            low, high = sorted((start.at(thing.begin), start.at(thing.end)))
+            row = _row(placed, kind, (start.track, start.way), low, thing.terms)
+            rows.append(row._replace(km_to=placed.kilometre(start.track, high) if has_length else None))
+    yield from rows
 
 
 def _borders(placed: PlacedPlan, options: Options, skipped: Dict[str, int]) -> Iterator[PlanRow]:

@@ -19,12 +19,13 @@ from balisekit.rules.passages import Passage
 from balisekit.rules.rule import Options, Remark, Result, Urgency
 from balisekit.rules.telegrams import Packet
 from balisekit.rules.track_plan.confirmed import Confirmed, Path
+from balisekit.tables import plan_things
 from balisekit.tables.chainage import Chainage
 from balisekit.tables.names import clean, kilometre, rows_words
-from balisekit.tables.plan import Plan, PlanRow, rows_named
+from balisekit.tables.plan import WITHOUT_PLACE, Plan, PlanRow, rows_named
 
 __all__ = ["BEHIND_POINT", "PlacedPlan", "Saying", "cells_of", "plan_words", "remark"]
-COMPARED = ("speed", "gradient", "signal", "aspect", "level", "rbc", "group")
+COMPARED = ("speed", "gradient", "signal", "aspect", "level", "rbc", "group", "radio", *plan_things.KEYS)
 """The kinds of rows that rules compare."""
 SAYS_NOTHING = "the plan says nothing"
 NO_PLACE = "no kilometre or direction"
@@ -126,7 +127,7 @@ class PlacedPlan:
         has_own = any(self.plan.of_kind(kind) for kind in kinds)
         has_others = any(self.plan.of_kind(kind) for kind in COMPARED)
         looked_at = counts.pop("", 0)
-        if not self.decoded.along and not counts and kinds not in (["aspect"], ["group"]):
+        if not self.decoded.along and not counts and not {*kinds} <= {"group", *WITHOUT_PLACE}:
             counts[NO_PLACE] = sum(len(self.plan.of_kind(kind)) for kind in kinds)
         made = Result(found, looked_at, counts, [*self._notes(kinds), *notes], has_others and not has_own)
         return made._replace(confirmed=self.confirmed)
@@ -134,7 +135,7 @@ class PlacedPlan:
     def _notes(self, kinds: Sequence[str]) -> Iterator[str]:
         """The rows of these kinds that no rule can compare."""
         tracks = {clean(data.group.track) for data in self.decoded.groups}
-        rows = [row for kind in kinds for row in self.plan.of_kind(kind) if kind != "aspect"]
+        rows = [row for kind in kinds for row in self.plan.of_kind(kind) if kind not in WITHOUT_PLACE]
         ends = [(row, km) for row in rows if row.track in tracks for km in (row.km, row.km_to) if km is not None]
         lost = [row for row, km in ends if self.place(row.track, km) is None]
         if lost:

@@ -38,7 +38,7 @@ from balisekit.rules.passages import GroupData
 from balisekit.rules.rule import Options, Remark, Result, Rule, Urgency
 from balisekit.rules.track_plan.placed import PlacedPlan, cells_of
 from balisekit.tables.names import clean, quoted
-from balisekit.tables.plan import PlanRow, aspect_name, rows_named
+from balisekit.tables.plan import WITHOUT_PLACE, PlanRow, aspect_name, rows_named
 
 LIKE = 0.6
 """How alike two names must be, by difflib."""
@@ -59,7 +59,7 @@ def _tracks(placed: PlacedPlan, tracks: Sequence[str]) -> Iterator[Remark]:
     """The tracks that the table does not have."""
     missing: Dict[str, List[PlanRow]] = {}
     for row in placed.plan.rows:
-        if row.track not in tracks and row.kind not in ("aspect", "group"):
+        if row.track not in tracks and row.kind not in ("group", *WITHOUT_PLACE):
             missing.setdefault(row.track, []).append(row)
     for track, rows in missing.items():
         name = f"track {track}" if track else "no track"

@@ -9,8 +9,8 @@ orientation than the plan. The rule rests on SUBSET-026, 7.4.2, 7.5.1 and 8.4.2.
   link and the group that the link names, on one track and each with its way. D_LINK is added up from the group that
   sends the packet.
 - Messages: the links of a message are compared in the same way, from its reference group.
-- If the row of a group has a `way`, the rules X1 to X3, X5 and X6 count distances from the place and the direction of
-  this row. A wrong kilometre of the table is then a remark of X8 only.
+- If the row of a group has a `way`, X1 to X3, X5, X6 and X10 count distances from the place and the direction of this
+  row. A wrong kilometre of the table is then a remark of X8 only.
 - Kilometres may differ by `--tolerance` (default 0) and by one unit of the last decimal of the kilometres, at most 1 m.
 - The sum of D_LINK may differ as kilometres may. It may also differ by one unit of Q_SCALE, and by half a unit for each
   further link. Q_LOCACC is not added to this tolerance, because it is no error of the data.

@@ -1,0 +1,160 @@
+"""Restrictions, conditions and areas that packets state, by the kinds of a plan: for the rule X10 and for `plan`."""
+from __future__ import annotations
+
+from typing import Any, Dict, Iterator, Mapping, NamedTuple, Sequence, Tuple
+
+from balisekit.design.tracks import Area
+from balisekit.rules.track_plan.placed import PlacedPlan, Saying
+from balisekit.tables.plan_things import KEYS
+from balisekit.tables.plan_values import INFINITE, NO_END, Term, Terms
+
+RESTRICTION, REVOCATION, REVERSING_AREA, REVERSING = 65, 66, 138, 139
+STOP_IN_SR, STOP_IN_SH, BALISES_FOR_SH = 137, 132, 49
+NUMBERS: Mapping[str, Sequence[int]] = {
+    "tsr": (RESTRICTION,),
+    "condition": (68,),
+    "reversing": (REVERSING_AREA,),
+    "repositioning": (16,),
+    "stop_in_sr": (STOP_IN_SR,),
+    "shunting": (STOP_IN_SH, BALISES_FOR_SH),
+}
+"""The packets that have the place of each kind."""
+OWN_KEYS = {STOP_IN_SR: "q_srstop", STOP_IN_SH: "q_aspect", BALISES_FOR_SH: "groups"}
+"""A key that the packet has if it fits its layout, of packets without Q_SCALE."""
+KINDS = tuple(KEYS)
+NOT_REVOCABLE, INFINITE_LENGTH = 255, 32_767
+IDENTIFYING = {"tsr": "id", "condition": "type", "stop_in_sr": "stop", "shunting": "stop"}
+"""The key that tells things of one kind from each other."""
+NEAR = 500
+"""In decimetres: what is as near to a row may be meant by it."""
+FAR = 200_000
+"""The same for two restrictions with one NID_TSR."""
+FIELDS: Mapping[Tuple[str, str], str] = {
+    ("tsr", "v"): "V_TSR",
+    ("tsr", "id"): "NID_TSR",
+    ("tsr", "front"): "Q_FRONT ends the speed at the front",
+    ("condition", "type"): "M_TRACKCOND",
+    ("reversing", "v"): "V_REVERSE",
+    ("reversing", "distance"): "D_REVERSE",
+    ("repositioning", "section"): "L_SECTION",
+    ("stop_in_sr", "stop"): "Q_SRSTOP stops trains",
+    ("shunting", "stop"): "Q_ASPECT stops trains",
+    ("shunting", "balises"): "the balises of packet 49",
+}
+
+
+class Thing(NamedTuple):
+    """What a packet states: a restriction, a condition or an area."""
+
+    kind: str
+    saying: Saying
+    begin: int
+    """Its distance from the group, as that of its end."""
+    end: int
+    terms: Terms
+    lengths: int = 1
+    """How many lengths its beginning is the sum of."""
+
+    @property
+    def unit(self) -> int:
+        """That of its distances in decimetres."""
+        return self.saying.packet.unit
+
+
+def things_of(placed: PlacedPlan, kind: str) -> Iterator[Thing]:
+    """All things of a kind, each packet once in each direction. A packet that does not fit its layout has none."""
+    for saying in placed.sayings(*NUMBERS[kind]):
+        form: Any = saying.packet.form
+        if is_decoded(saying):
+            yield from READERS[kind](saying, form, saying.packet.unit)
+
+
+def is_decoded(saying: Saying) -> bool:
+    """Whether a packet fits its layout."""
+    return OWN_KEYS.get(saying.packet.number, "q_scale") in saying.packet.form
+
+
+def _restrictions(saying: Saying, form: Any, unit: int) -> Iterator[Thing]:
+    begin, number = form["d_tsr"] * unit, form["nid_tsr"]
+    terms: Dict[str, Term] = {"v": form["v_tsr"], "id": None if number == NOT_REVOCABLE else number}
+    terms["front"] = "yes" if form["q_front"] else "no"
+    yield Thing("tsr", saying, begin, begin + form["l_tsr"] * unit, terms)
+
+
+def _conditions(saying: Saying, form: Any, unit: int) -> Iterator[Thing]:
+    begin = 0
+    for place, each in enumerate(form.get("elements", ()), 1):
+        begin += each["d_trackcond"] * unit
+        end = begin + each["l_trackcond"] * unit
+        yield Thing("condition", saying, begin, end, {"type": each["m_trackcond"]}, place)
+
+
+def _areas(saying: Saying, form: Any, unit: int) -> Iterator[Thing]:
+    begin = form["d_startreverse"] * unit
+    terms: Dict[str, Term] = {}
+    for packet in saying.passage.of(REVERSING):
+        more: Any = packet.form
+        if "d_reverse" in more:
+            distance = more["d_reverse"]
+            terms["v"] = more["v_reverse"]
+            terms["distance"] = INFINITE if distance == INFINITE_LENGTH else distance * packet.unit
+    yield Thing("reversing", saying, begin, begin + form["l_reversearea"] * unit, terms)
+
+
+def _sections(saying: Saying, form: Any, unit: int) -> Iterator[Thing]:
+    yield Thing("repositioning", saying, 0, 0, {"section": form["l_section"] * unit})
+
+
+def _stop_in_sr(saying: Saying, form: Any, unit: int) -> Iterator[Thing]:
+    yield Thing("stop_in_sr", saying, 0, 0, {"stop": "no" if form["q_srstop"] else "yes"})
+
+
+def _shunting(saying: Saying, form: Any, unit: int) -> Iterator[Thing]:
+    """What both packets of a passage say of shunting, at the first of them."""
+    passage = saying.passage
+    terms: Dict[str, Term] = {}
+    own = [each for each in passage.of(STOP_IN_SH, BALISES_FOR_SH) if OWN_KEYS[each.number] in each.form]
+    if not own or own[0] is not saying.packet:
+        return
+    for each in own:
+        more: Any = each.form
+        if each.number == STOP_IN_SH:
+            terms["stop"] = "no" if more["q_aspect"] else "yes"
+        else:
+            country = passage.group.group.identity[0] if passage.group and passage.group.group.identity else 0
+            terms["balises"] = ",".join(_identities(country, more["groups"])) or NO_END
+    yield Thing("shunting", saying, 0, 0, terms)
+
+
+def _identities(country: int, groups: Any) -> Iterator[str]:
+    """The groups of a packet 49. One without NID_C has that of the one before it, or of the sender."""
+    for each in groups:
+        country = each.get("nid_c", country)
+        yield f"{country}/{each['nid_bg']}"
+
+
+READERS = {"tsr": _restrictions, "condition": _conditions, "reversing": _areas, "repositioning": _sections}
+READERS.update(stop_in_sr=_stop_in_sr, shunting=_shunting)
+
+
+def meant(thing: Thing, areas: Sequence[Area]) -> Sequence[Area]:
+    """The row that a thing states, or none: of its number, or else where it is, and of those the nearest one."""
+    key = IDENTIFYING.get(thing.kind, "")
+    own = thing.terms.get(key)
+    same = [each for each in areas if key in each.row.terms and each.row.terms[key] == own]
+    is_number = thing.kind == "tsr" and own is not None
+    near = [each for each in same if is_number and _apart(thing, each) <= FAR]
+    near = near or [each for each in same if _apart(thing, each) <= NEAR]
+    near = near or [each for each in areas if _apart(thing, each) <= NEAR]
+    return sorted(near, key=lambda each: abs(each.begin - thing.begin) + abs(each.end - thing.end))[:1]
+
+
+def _apart(thing: Thing, area: Area) -> int:
+    """How far a thing and a row are from each other. Nothing if they overlap."""
+    return max(0, area.begin - thing.end, thing.begin - area.end)
+
+
+def places_differ(thing: Thing, area: Area, allowed: Tuple[int, int]) -> Tuple[bool, bool]:
+    """Whether a thing begins and ends elsewhere than its row. A group within it can only say that it has begun."""
+    begin = max(area.begin, 0)
+    return abs(thing.begin - begin) > allowed[0], abs(thing.end - area.end) > allowed[1]
