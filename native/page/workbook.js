@@ -4,6 +4,7 @@ import { looksLikeTelegram } from "./looks.js";
 
 const MOST_COLUMNS = 16384, MOST_ROWS = 1048576; // of a sheet, as a spreadsheet has
 const TYPES = "http://schemas.openxmlformats.org/officeDocument/2006/relationships";
+const PIECE = 500000; // characters of a sheet that are read at a time
 const PAGE = "http://www.w3.org/1999/xhtml";
 const KINDS = { n: "number", b: "truth", e: "error" }; // of cells that are no text
 const OTHER = /^xl\/.*\.(xml|vml)$/, SKIPPED = /^xl\/(styles|theme\/.*|workbook|sharedstrings|calcchain|metadata)\.xml$|_rels/;
@@ -20,6 +21,28 @@ function all(element, name) {
 
 function isTrue(element, name) {
     return ["1", "true"].includes(element.getAttribute(name));
+}
+
+// XML that was read.
+function xmlOf(name, text) {
+    const form = new DOMParser().parseFromString(text, "application/xml");
+    if (all(form, "parsererror").length) throw wrong(`the part ${name.slice(0, 100)} is no XML`);
+    return form;
+}
+
+// The XML of a sheet without its rows, and these in pieces, each as the XML of a sheet: a whole one would block the page.
+function piecesOf(text) {
+    const root = /<((?:\w+:)?)worksheet(?:\s[^>]*)?>/.exec(text), start = /<((?:\w+:)?)sheetData(?:\s[^>]*[^/>])?>/.exec(text);
+    const end = start ? text.lastIndexOf(`<\/${start[1]}sheetData>`) : -1;
+    if (!root || end < 0) return { frame: text, pieces: [] };
+    const first = start.index + start[0].length, pieces = [];
+    const after = `<\/${start[1]}sheetData><\/${root[1]}worksheet>`;
+    for (let at = first, next; at < end; at = next) {
+        const row = text.indexOf(`<\/${start[1]}row>`, at + PIECE);
+        next = row < 0 || row > end ? end : text.indexOf(">", row) + 1;
+        pieces.push(`${root[0]}${start[0]}${text.slice(at, next)}${after}`);
+    }
+    return { frame: text.slice(0, first) + text.slice(end), pieces };
 }
 
 // The parts of a workbook as XML.
@@ -46,14 +69,17 @@ class Package {
         }
     }
 
+    // The text of XML that defines nothing of its own, and is no page.
+    async source(name) {
+        const text = await this.text(name), what = `the part ${name.slice(0, 100)}`;
+        if (/<!(?:DOCTYPE|ENTITY)/i.test(text)) throw wrong(`${what} has a document type`);
+        if (text.includes(PAGE)) throw wrong(`${what} has elements of a page`);
+        if (/^<\?xml[^>]*encoding\s*=\s*["'](?!utf-?8["'])/i.test(text)) throw wrong(`${what} is not in UTF-8`);
+        return text;
+    }
+
     async xml(name) {
-        const text = await this.text(name);
-        if (/<!(?:DOCTYPE|ENTITY)/i.test(text)) throw wrong(`the part ${name.slice(0, 100)} has a document type`);
-        if (text.includes(PAGE)) throw wrong(`the part ${name.slice(0, 100)} has elements of a page`);
-        if (/^<\?xml[^>]*encoding\s*=\s*["'](?!utf-?8["'])/i.test(text)) throw wrong(`the part ${name.slice(0, 100)} is not in UTF-8`);
-        const form = new DOMParser().parseFromString(text, "application/xml");
-        if (all(form, "parsererror").length) throw wrong(`the part ${name.slice(0, 100)} is no XML`);
-        return form;
+        return xmlOf(name, await this.source(name));
     }
 
     // The relationships of a part: kind and part of each, by its id.
@@ -69,9 +95,21 @@ class Package {
     }
 }
 
-// The text of a string: its runs, without the readings of Asian characters.
+// The first child of this name.
+function child(element, name) {
+    let it = element.firstElementChild;
+    while (it && it.localName !== name) it = it.nextElementSibling;
+    return it;
+}
+
+// The text of a string: its own or that of its runs, without the readings of Asian characters.
 function stringText(element) {
-    return all(element, "t").filter((it) => it.parentNode.localName !== "rPh").map((it) => it.textContent).join("");
+    let text = "";
+    for (let it = element?.firstElementChild; it; it = it.nextElementSibling) {
+        if (it.localName === "t") text += it.textContent;
+        else if (it.localName === "r") text += stringText(it);
+    }
+    return text;
 }
 
 // The number of a column by its letters, from 0 on.
@@ -81,9 +119,9 @@ function columnOf(letters) {
 
 // A cell: its text, and what it is if that is no text.
 function cellOf(element, strings) {
-    const type = element.getAttribute("t") ?? "n", value = all(element, "v")[0]?.textContent ?? "";
-    const formula = all(element, "f")[0];
-    if (type === "inlineStr") return { text: stringText(element) };
+    const type = element.getAttribute("t") ?? "n", value = child(element, "v")?.textContent ?? "";
+    const formula = child(element, "f");
+    if (type === "inlineStr") return { text: stringText(child(element, "is")) };
     if (value === "") return formula ? { text: `=${formula.textContent}`, kind: "formula" } : { text: "" };
     if (type === "s") {
         const text = /^\s*[0-9]+\s*$/.test(value) ? strings[Number(value)] : undefined;
@@ -147,10 +185,26 @@ async function besides(parts) {
     return { found, notes };
 }
 
-async function sheetOf(parts, strings, { name, isHidden, path }) {
-    const form = await parts.xml(path), rows = new Rows(strings), data = all(form, "sheetData")[0];
-    for (let it = data?.firstElementChild; it; it = it.nextElementSibling) if (it.localName === "row") rows.take(it);
-    if (all(form, "c").length !== rows.cells) throw wrong(`the sheet ${name.slice(0, 100)} has cells in none of its rows`);
+// Lets the page answer its user.
+function pause() {
+    return new Promise((resolve) => { setTimeout(resolve); });
+}
+
+// Takes the rows of a piece. A cell that is in none of them is refused.
+function takePiece(rows, form, name) {
+    const before = rows.cells;
+    for (let it = all(form, "sheetData")[0].firstElementChild; it; it = it.nextElementSibling) if (it.localName === "row") rows.take(it);
+    if (all(form, "c").length !== rows.cells - before) throw wrong(`the sheet ${name.slice(0, 100)} has cells in none of its rows`);
+}
+
+async function sheetOf(parts, strings, { name, isHidden, path }, tell) {
+    const { frame, pieces } = piecesOf(await parts.source(path)), rows = new Rows(strings), form = xmlOf(path, frame);
+    if (all(form, "c").length) throw wrong(`the sheet ${name.slice(0, 100)} has cells in none of its rows`);
+    for (const [index, piece] of pieces.entries()) {
+        takePiece(rows, xmlOf(path, piece), name);
+        tell({ step: `sheet ${name.slice(0, 100)}, row ${rows.rows.at(-1)?.number}`, part: index / pieces.length });
+        await pause();
+    }
     return { name, rows: rows.rows, notes: notesOf(name, form, rows, isHidden) };
 }
 
@@ -176,7 +230,7 @@ export async function workbookOf(bytes, tell) {
         if (sheets.some((one) => one.name === name)) throw wrong(`it has the sheet ${name.slice(0, 100)} twice`);
         tell({ step: `reading the sheet ${name.slice(0, 100)}` });
         if (relation?.kind !== "worksheet") notes.push(`The sheet ${name.slice(0, 100)} has no cells, and was not read.`);
-        else sheets.push(await sheetOf(parts, strings, { name, isHidden, path: relation.path }));
+        else sheets.push(await sheetOf(parts, strings, { name, isHidden, path: relation.path }, tell));
     }
     if (!sheets.length) throw wrong("it has no sheet with cells");
     const { found, notes: more } = await besides(parts);
