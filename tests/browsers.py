@@ -147,7 +147,10 @@ user_pref("browser.startup.page", 0);
 NOTES = """
 window.balisecheckAsked ??= (() => {
     const asked = [];
-    Services.obs.addObserver((it) => asked.push(it.QueryInterface(Ci.nsIChannel).URI.spec), "http-on-modify-request");
+    Services.obs.addObserver((it) => {
+        const channel = it.QueryInterface(Ci.nsIChannel), isOwn = channel.loadInfo.triggeringPrincipal.isSystemPrincipal;
+        if (!isOwn) asked.push(channel.URI.spec);
+    }, "http-on-modify-request");
     return asked;
 })();
 window.balisecheckAsked.length = 0;
@@ -250,8 +253,8 @@ class Firefox:
         pathlib.Path(path).write_bytes(base64.b64decode(found))
 
     def requests(self):
-        """The addresses that were asked for by http since the page was opened. Those of the browser itself are not counted."""
-        return [it for it in self.own("return window.balisecheckAsked;") if "mozilla" not in it]
+        """The addresses that the page asked for by http since it was opened. Those of the browser itself are not counted."""
+        return self.own("return window.balisecheckAsked;")
 
     def messages(self):
         """The errors of the page since it was opened."""

@@ -13,6 +13,7 @@ from checker_page import DOCUMENTS, ONLY_CHROMIUM, SHORT, STATUS, answered, choo
 from checker_page import a_tab, an_opened_tab  # noqa: F401 pylint: disable=unused-import # (fixtures)
 from runner import TOP, run
 from targets import MODULE, Call, answers, need
+from workbooks import workbook
 
 SECONDS = 0.5
 
@@ -201,7 +202,8 @@ def test_names_of_fields(tab):
     given = "\n".join(line for line, _ in faulty)
     shown = run(["show"], given, path=TOP / "balisekit", timeout=300).stdout
     told = {int(number): it for number, *it in re.findall(rf"(?m)^line (\d+): {FIELD}", shown)}
-    asked = f"{json.dumps(faulty)}.map(([line, at]) => fieldAt(data, bitsOf(line), false, at))"
+    layouts = "JSON.parse(document.querySelector('#data').textContent)"
+    asked = f"((its) => {json.dumps(faulty)}.map(([line, at]) => fieldAt(its, bitsOf(line), false, at)))({layouts})"
     compared = 0
     for number, said in enumerate(tab.run(asked), 1):
         own = re.match(FIELD, said)
@@ -332,6 +334,7 @@ def test_drop(opened):
     assert opened.run("document.querySelector('#result').children.length") == 0
 
 
+@ONLY_CHROMIUM
 def test_long_paste(opened):
     """A long text is checked without being put into its field, which would be slow."""
     opened.run(LONG_PASTE)
@@ -377,6 +380,13 @@ def test_other_files(tab, tmp_path, name):
     assert choose(tab, tmp_path / name).startswith(sentence)
 
 
+# Notes the longest time between two frames, in milliseconds.
+FRAMES = """(window.longest = 0, (function frame(before) {
+    requestAnimationFrame((now) => {
+        window.longest = Math.max(window.longest, now - (before ?? now));
+        frame(now);
+    });
+})(), 0)"""
 # What is before, between and after the 50 MB of a file, and how the sentence begins.
 LARGE = {
     "long.txt": ("", "a", "", "1 line: 0 read, 1 refused"),
@@ -393,10 +403,9 @@ def test_large_files(opened, tmp_path, name):
     before, repeated, after, sentence = LARGE[name]
     (tmp_path / name).write_text(before + repeated * (50_000_000 // len(repeated)) + after)
     opened.run("document.querySelector('#clear').click()")
-    opened.run("globalThis.longest = 0; (function frame(before) { requestAnimationFrame((now) => {"
-               "longest = Math.max(longest, now - (before ?? now)); frame(now); }); })()")
+    opened.run(FRAMES)
     assert choose(opened, tmp_path / name, 120).startswith(sentence)
-    assert opened.run("longest") < 5000
+    assert opened.run("window.longest") < 5000
     assert opened.messages() == []
 
 
@@ -426,8 +435,8 @@ def test_browser_without_the_module():
 # ---- Firefox
 
 
-def test_firefox():
-    """Firefox opens the file and gives the same answers."""
+def test_firefox(tmp_path):
+    """Firefox opens the file and gives the same answers, without a request. One would be seen."""
     need("firefox")
     with Firefox() as browser:
         browser.open(page())
@@ -436,6 +445,16 @@ def test_firefox():
             assert choose(browser, path) == run(["check"], path.read_text()).stdout.split("\n")[0]
         assert paste(browser, f"{SHORT}\nzz\n") == "2 lines: 1 read, 1 refused"
         assert "refused: not hexadecimal" in texts(browser, "details.faulty")[0]
+        assert paste(browser, f"group,telegram\nA,{SHORT}\n") == "yes: groups 1, telegrams 1"
+        assert paste(browser, f"group,telegram\nA,{SHORT}\nB,00\n") == "refused: row 3: wrong size"
+        (tmp_path / "line.xlsx").write_bytes(workbook({"Line": [["group", "telegram"], ["A", SHORT], ["B", 1.6e62]]}))
+        said = choose(browser, tmp_path / "line.xlsx")
+        assert said == "refused: sheet Line row 3: cell B3 is a number, whose digits can be lost"
+        assert browser.requests() == [] and browser.messages() == []
         browser.run("document.querySelector('#clear').click()")
         browser.sized(500)
         assert browser.run("document.documentElement.scrollWidth - innerWidth") <= 0
+        (tmp_path / "other.html").write_text("<script>fetch('http://127.0.0.1:10009/'); setTimeout(() => { throw 1; })</script>")
+        browser.open(tmp_path / "other.html")
+        browser.until("performance.now() > 300")
+        assert browser.requests() == ["http://127.0.0.1:10009/"] and browser.messages()

@@ -3,6 +3,7 @@ import csv
 import io
 import json
 import subprocess
+import time
 
 import pytest
 
@@ -254,3 +255,32 @@ def test_pasted_cells(tab):
     """Cells that were copied from a spreadsheet are a table by tabs, also below a title."""
     assert paste(tab, f"Line 1\n\ngroup\ttelegram\nA\t{SINGLE}\n") == "yes: groups 1, telegrams 1"
     assert paste(tab, SHORT).startswith("1 line: 1 read")
+
+
+# ---- many rows
+
+ROWS, SECONDS, RUNS = 100_000, 5, 6
+# The reports of progress: how far it was at each, in percent.
+PROGRESS = """(window.seen = [], new MutationObserver(() => {
+    const bar = document.querySelector("#progress");
+    if (bar.hasAttribute("value")) window.seen.push(Math.round(100 * bar.value));
+}).observe(document.querySelector("#step"), { childList: true }), 0)"""
+
+
+@pytest.mark.slow
+def test_many_rows(tab, tmp_path, read_line):
+    """A table of 100,000 rows is answered in 5 s, once in six runs beside other tests, with progress and no request."""
+    digits = [row[-1] for row in read_line[1:]]
+    rows = "".join(f"{at // 2},{at / 10},{digits[at % len(digits)]}\n" for at in range(ROWS))
+    (tmp_path / "many.csv").write_text(f"group,km,telegram\n{rows}")
+    tab.run(PROGRESS)
+    taken = []
+    while not taken or min(taken) > SECONDS and len(taken) < RUNS:
+        begun = time.monotonic()
+        assert choose(tab, tmp_path / "many.csv").startswith("no: findings ")
+        taken.append(time.monotonic() - begun)
+    assert min(taken) <= SECONDS, taken
+    assert f"Telegrams in the file: {ROWS}. Judged: {ROWS}," in tab.run(RESULT)
+    seen = tab.run("window.seen")
+    assert len(set(seen)) > 5 and max(seen) > 50
+    assert tab.messages() == [] and tab.requests() == []

@@ -19,9 +19,10 @@ function listsBy(entries, key) {
 
 // The rows of each aspect, with those of every aspect: of those that rows name, or of one without a name.
 function aspectsOfRows(entries) {
-    const every = entries.filter(isEvery), lists = [...listsBy(entries.filter((it) => !isEvery(it)), (it) => it.aspect).values()];
-    if (!lists.length) return [every];
-    return lists.map((own) => (every.length ? [...own, ...every].sort((one, other) => one.index - other.index) : own));
+    const every = entries.filter(isEvery), own = entries.filter((it) => !isEvery(it));
+    if (!own.length) return [every];
+    const lists = [...listsBy(own, (it) => it.aspect).values()];
+    return every.length ? lists.map((it) => [...it, ...every].sort((one, other) => one.index - other.index)) : lists;
 }
 
 // The balises of an aspect by their numbers, if they have numbers, else by their rows.
@@ -32,9 +33,9 @@ function inOrder(entries) {
 function entryFault(entries) {
     const hasAspects = entries.some((it) => it.aspect !== "" && !isEvery(it));
     const hasNumbers = entries.some((it) => it.number !== undefined);
-    const faulty = (it) => (hasAspects && it.aspect === "" ? "no aspect" : hasNumbers && it.number === undefined && "no balise");
-    const found = entries.find(faulty);
-    return found && { ...found, reason: faulty(found) };
+    const isUnnamed = (it) => hasAspects && it.aspect === "", isUnnumbered = (it) => hasNumbers && it.number === undefined;
+    const found = entries.find((it) => isUnnamed(it) || isUnnumbered(it));
+    return found && { ...found, reason: isUnnamed(found) ? "no aspect" : "no balise" };
 }
 
 function aspectFault(entries) {

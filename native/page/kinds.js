@@ -1,4 +1,4 @@
-// What an input is: a document, a table, a workbook, lines of telegrams and messages, or something that this page does not read.
+// What an input is: a document, a table, a workbook, lines of telegrams and messages, or something that is not read here.
 
 // Sentences on what is not read here, by kind. Each says what to do instead.
 export const NOT_READ = {
@@ -16,7 +16,9 @@ const STARTS = [
     ["workbook", [0x50, 0x4b, 0x03, 0x04]], ["old", [0xd0, 0xcf, 0x11, 0xe0]], ["pdf", [0x25, 0x50, 0x44, 0x46]],
     ["utf16", [0xff, 0xfe]], ["utf16", [0xfe, 0xff]],
 ];
-const ENDINGS = [["workbook", /\.(xlsx|xlsm)$/i], ["old", /\.xls$/i], ["ods", /\.(ods|xlsb)$/i], ["table", /\.(csv|tsv)$/i]];
+const ENDINGS = [
+    ["workbook", /\.(xlsx|xlsm)$/i], ["old", /\.xls$/i], ["ods", /\.(ods|xlsb)$/i], ["table", /\.(csv|tsv)$/i],
+];
 const HEAD = 4096; // bytes that are looked at
 const FIRST = 20; // lines of a text that are looked at
 
@@ -34,7 +36,7 @@ function isRow(line) {
     return /[;,\t]/.test(line) && !/^[0-9a-f]*$/i.test(line.trim());
 }
 
-// "document", "table", "workbook", "lines" or a key of NOT_READ, for the bytes of a file with this name, or of a pasted text.
+// "document", "table", "workbook", "lines" or a key of NOT_READ, for the bytes of a file with this name or a pasted text.
 export function kindOf(name, bytes) {
     const head = bytes.subarray(0, HEAD);
     if (!bytes.length) return "empty";

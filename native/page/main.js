@@ -14,7 +14,8 @@ const LONGEST_PASTE = 200000; // characters that are put into the field
 const LARGEST_TABLE = 2e8; // bytes of a table or workbook
 const SHOWS = { document: [documentVerdict, documentView], lines: [linesVerdict, linesView],
     table: [tableVerdict, tableView], workbook: [tableVerdict, tableView] };
-const READ_AS = { document: "a document", lines: "lines of telegrams and messages", table: "a table", workbook: "a workbook" };
+const READ_AS = { document: "a document", lines: "lines of telegrams and messages", table: "a table",
+    workbook: "a workbook" };
 const COLUMNS = ["group", "telegram", "aspect", "balise"];
 const its = Object.fromEntries([...document.querySelectorAll("[id]")].map((element) => [element.id, element]));
 const data = JSON.parse(its.data.textContent);

@@ -96,10 +96,12 @@ class SheetReader {
     // What is wrong with a row, in the order in which it is looked at.
     reasonsOf(row, [group, telegram, aspect, balise]) {
         const isWide = row.fields.slice(this.columns.width).some(Boolean);
-        const checks = [[!group, "no group"], [!telegram, "no telegram"], [isWide, "text to the right of the headings"],
+        const checks = [
+            [!group, "no group"], [!telegram, "no telegram"], [isWide, "text to the right of the headings"],
             [EDGE.test(group), "a blank at an end of the group"], [EDGE.test(aspect), "a blank at an end of the aspect"],
             [!HEXADECIMAL.test(digitsOf(telegram)), NO_DIGITS],
-            [!NUMBER.test(balise), "the balise is not a number of up to four digits"]];
+            [!NUMBER.test(balise), "the balise is not a number of up to four digits"],
+        ];
         return [...this.cellReasons(row), ...checks.filter(([isWrong]) => isWrong).map(([, reason]) => reason)];
     }
 
@@ -112,7 +114,7 @@ class SheetReader {
         if (telegram) this.telegrams++;
         if (reason) this.fault(row, reason, reason === NO_DIGITS ? digitsOf(telegram) : undefined);
         const number = balise === "" ? undefined : Number(balise);
-        this.entries.push({ ...this.place(row), column: this.columns.telegram, group, aspect, number, digits: digitsOf(telegram) });
+        this.entries.push({ ...this.place(row), group, aspect, number, digits: digitsOf(telegram) });
     }
 
     take(row) {
@@ -189,7 +191,8 @@ export function readSheets(book, words) {
 
 // Where something of a table is, such as "row 7" or "sheet Line row 7".
 export function placeText({ sheet, row }) {
-    return [...(sheet === undefined ? [] : [`sheet ${sheet.slice(0, LONGEST_NAME)}`]), ...(row === undefined ? [] : [`row ${row}`])].join(" ");
+    const inSheet = sheet === undefined ? "" : `sheet ${sheet.slice(0, LONGEST_NAME)}`;
+    return [inSheet, row === undefined ? "" : `row ${row}`].filter(Boolean).join(" ");
 }
 
 // A fault of a table in words.

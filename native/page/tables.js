@@ -9,7 +9,8 @@ const TELEGRAMS_STEP = 1000; // telegrams between two reports of progress
 // The entries whose digits are no telegram, each with its fault. Faults of rows have been found before.
 function refusedEntries(entries, tell) {
     return entries.filter((entry, index) => {
-        if (index % TELEGRAMS_STEP === 0) tell({ step: `telegram ${index} of ${entries.length}`, part: index / entries.length });
+        const total = entries.length;
+        if (index % TELEGRAMS_STEP === 0) tell({ step: `telegram ${index} of ${total}`, part: index / total });
         const { status, fault } = telegram(entry.digits);
         if (status === 3) throw new Error("memory ran out");
         if (status !== 0) entry.fault = fault;

@@ -9,16 +9,18 @@ const CELL = 28; // characters of a cell beside a finding
 // What to do about a table that is refused as a whole.
 const HINTS = {
     "not UTF-8": "The file has another encoding, such as UTF-16 or Windows-1252. Save the table again as CSV UTF-8.",
-    "no heading row": "None of the first 20 rows has the two headings that a table needs, each in a cell of its own. State the " +
-        "headings of your table above, or rename them.",
+    "no heading row": "None of the first 20 rows has the two headings that a table needs, each in a cell of its own. " +
+        "State the headings of your table above, or rename them.",
     "two delimiters give a heading row": "A table has one row of headings, and one delimiter: comma, semicolon or tab.",
     "no telegram": "No row below the headings has a telegram.",
 };
+const OF_A_ROW = "The whole table is refused for this row. Correct it, and check the table again.";
 const READER = "the JavaScript of this page, which is not proved";
 
 // A row of the table beside a finding.
 function rowView({ where, cells }) {
-    const texts = cells.map(([heading, text]) => `${shortened(heading, CELL)} ${text.length > CELL ? `${text.slice(0, CELL)}..` : text}`);
+    const cut = (text) => (text.length > CELL ? `${text.slice(0, CELL)}..` : text);
+    const texts = cells.map(([heading, text]) => `${cut(heading)} ${cut(text)}`);
     return make("div", {}, make("strong", {}, where), `: ${texts.join("; ")}`);
 }
 
@@ -27,7 +29,7 @@ function refusalView(data, { label, where, reason, cells, record }) {
     return folded(make("span", { class: "found" }, label), () => {
         const shown = cells.length ? [table(`Cells of ${where}`, ["column", "text"], cells)] : [];
         if (record?.fault) return [...shown, ...refusedView(data, record)];
-        return [...shown, paragraph(HINTS[reason] ?? "The whole table is refused for this row. Correct it, and check the table again.")];
+        return [...shown, paragraph(HINTS[reason] ?? OF_A_ROW)];
     }, "faulty");
 }
 
@@ -36,9 +38,10 @@ class TableView extends DocumentView {
         const located = await this.ask("located", { from, count, hasCells: true });
         const rows = this.findings.slice(from, from + count).map((finding, index) => {
             const show = () => this.show("group", finding.group).then(() => this.title.focus());
-            const { rows: shown, more } = located[index], rest = more ? [make("div", {}, `and ${counted(more, "more row")}`)] : [];
-            return [finding.rule, finding.name, [...shown.map(rowView), ...rest],
-                whereText({ ...finding, group: undefined }), button(`Show group ${finding.group}`, show)];
+            const { rows: shown, more } = located[index], where = whereText({ ...finding, group: undefined });
+            const rest = more ? [make("div", {}, `and ${counted(more, "more row")}`)] : [];
+            const views = [...shown.map(rowView), ...rest];
+            return [finding.rule, finding.name, views, where, button(`Show group ${finding.group}`, show)];
         });
         const caption = `Findings ${from + 1} to ${from + rows.length} of ${this.findings.length}`;
         return [table(caption, ["finding", "name", "rows and their cells", "where", "telegrams"], rows)];
@@ -56,17 +59,16 @@ class TableView extends DocumentView {
 
     // What was read, what was not, and what is not proved.
     notes() {
-        const { telegrams, status, elsewhere, unread, notes = [] } = this.answer, isJudged = status < 2;
+        const { telegrams, status, elsewhere, unread, notes = [], isBook } = this.answer, isJudged = status < 2;
         const counts = `Telegrams in the file: ${telegrams + elsewhere.count}. Judged: ${isJudged ? telegrams : 0}, ` +
             `refused with the table: ${isJudged ? 0 : telegrams}, in other places: ${elsewhere.count}.`;
-        const shown = [paragraph(counts)];
-        if (elsewhere.count) shown.push(paragraph(`Not judged: these texts look like telegrams: ${elsewhere.shown.join("; ")}` +
-            `${elsewhere.count > elsewhere.shown.length ? "; and others" : ""}.`, "warning"));
-        shown.push(...unread.map((name) => paragraph(`The sheet ${shortened(name, 100)} was not read: it has no row with the headings.`)));
-        shown.push(...notes.map((it) => paragraph(it)));
-        shown.push(paragraph(`The proved module judged the groups. ${this.answer.isBook ? "The workbook was" : "The table was"} ` +
-            "read, and its rows were put together to groups, by the JavaScript of this page, which is not proved."));
-        return shown;
+        const left = elsewhere.count > elsewhere.shown.length ? "; and others" : "";
+        const others = `Not judged, although it looks like a telegram: ${elsewhere.shown.join("; ")}${left}.`;
+        const noHeading = (name) => `The sheet ${shortened(name, 100)} was not read: it has no row with the headings.`;
+        const proved = `The ${isBook ? "workbook" : "table"} was read, and its rows were put together to groups, by the ` +
+            "JavaScript of this page, which is not proved. The proved module judges the groups.";
+        const warning = elsewhere.count ? [paragraph(others, "warning")] : [];
+        return [paragraph(counts), ...warning, ...[...unread.map(noHeading), ...notes, proved].map((it) => paragraph(it))];
     }
 
     // What the saved answer has besides that of a document.
@@ -118,5 +120,6 @@ export function tableVerdict(data, input, answer) {
     if (answer.status === 3) return ["No answer: memory ran out. Split the table, or use the program.", "no"];
     const line = shortened(answer.said.split("\n", 1)[0], 1000);
     if (answer.status !== 0) return [line, "no"];
-    return answer.elsewhere.count ? [`${line}. Other texts look like telegrams, and were not judged.`, "read"] : [line, "yes"];
+    if (answer.elsewhere.count) return [`${line}. Other texts look like telegrams, and were not judged.`, "read"];
+    return [line, "yes"];
 }

@@ -23,7 +23,8 @@ function damaged(what) {
 function endOf(view) {
     const first = Math.max(0, view.byteLength - END_SIZE - 0xffff);
     for (let at = view.byteLength - END_SIZE; at >= first; at--) {
-        if (view.getUint32(at, true) === END && at + END_SIZE + view.getUint16(at + 20, true) === view.byteLength) return at;
+        const isLast = at + END_SIZE + view.getUint16(at + 20, true) === view.byteLength;
+        if (isLast && view.getUint32(at, true) === END) return at;
     }
     throw damaged("it has no end, or other bytes behind its end");
 }
@@ -40,10 +41,10 @@ function entryAt(bytes, view, at, end) {
 }
 
 function lookAt(part, known) {
-    const twice = known.has(part.name.toLowerCase());
-    if (twice) throw damaged(`it has the part ${part.name.slice(0, 100)} twice`);
+    const what = `the part ${part.name.slice(0, 100)}`;
+    if (known.has(part.name.toLowerCase())) throw damaged(`it has ${what} twice`);
     if (part.flags & 1) throw new Error("the workbook is protected by a password: save it without one");
-    if (part.method !== 0 && part.method !== 8) throw damaged(`the part ${part.name.slice(0, 100)} is packed in an unknown way`);
+    if (part.method !== 0 && part.method !== 8) throw damaged(`${what} is packed in an unknown way`);
 }
 
 // The parts by their names in small letters. None is unpacked yet.
@@ -51,16 +52,17 @@ export function zipParts(bytes) {
     const view = new DataView(bytes.buffer, bytes.byteOffset, bytes.byteLength);
     if (view.byteLength < END_SIZE) throw damaged("it is too short");
     const end = endOf(view), count = view.getUint16(end + 10, true), parts = new Map();
-    let at = view.getUint32(end + 16, true), total = 0;
+    let at = view.getUint32(end + 16, true), total = 0, first = Infinity;
     for (let index = 0; index < count; index++) {
         const part = entryAt(bytes, view, at, end);
         lookAt(part, parts);
         parts.set(part.name.toLowerCase(), part);
         total += part.size;
+        first = Math.min(first, part.at);
         at = part.next;
     }
     if (at !== end) throw damaged("its directory has gaps");
-    if (Math.min(...[...parts.values()].map((it) => it.at)) !== 0) throw damaged("it has other bytes in front of its parts");
+    if (first !== 0) throw damaged("it has no parts, or other bytes in front of them");
     if (total > MOST) throw new Error(`the workbook has ${total} bytes unpacked, more than ${MOST}: save the table as CSV`);
     return parts;
 }
@@ -68,16 +70,17 @@ export function zipParts(bytes) {
 // The packed bytes of a part, whose own record has to have the same name.
 function packedOf(bytes, { name, at, packed }) {
     const view = new DataView(bytes.buffer, bytes.byteOffset, bytes.byteLength);
-    if (at + LOCAL_SIZE > bytes.length || view.getUint32(at, true) !== LOCAL) throw damaged(`the part ${name.slice(0, 100)} is missing`);
+    const what = `the part ${name.slice(0, 100)}`, isHere = at + LOCAL_SIZE <= bytes.length;
+    if (!isHere || view.getUint32(at, true) !== LOCAL) throw damaged(`${what} is missing`);
     const nameEnd = at + LOCAL_SIZE + view.getUint16(at + 26, true), start = nameEnd + view.getUint16(at + 28, true);
     const own = new TextDecoder().decode(bytes.subarray(at + LOCAL_SIZE, nameEnd));
-    if (own !== name || start + packed > bytes.length) throw damaged(`the part ${name.slice(0, 100)} is not where it should be`);
+    if (own !== name || start + packed > bytes.length) throw damaged(`${what} is not where it should be`);
     return bytes.subarray(start, start + packed);
 }
 
 // Unpacks until the bytes end, or are more than this.
 async function inflated(packed, size) {
-    const stream = new Blob([packed]).stream().pipeThrough(new DecompressionStream("deflate-raw")), reader = stream.getReader();
+    const reader = new Blob([packed]).stream().pipeThrough(new DecompressionStream("deflate-raw")).getReader();
     const whole = new Uint8Array(size);
     for (let at = 0; ;) {
         const { done, value } = await reader.read();
