@@ -25,8 +25,8 @@ from balisekit.tables import reader
 from balisekit.tables.model import Group
 
 pytestmark = pytest.mark.uncovered
-STORED = TOP / "dist" / "x86_64-linux" / "balisecheck_table"
-PROGRAM = os.environ.get("BALISECHECK_TABLE", str(STORED))
+BUILT, STORED = TOP / "out" / "balisecheck_table", TOP / "dist" / "x86_64-linux" / "balisecheck_table"
+PROGRAM = os.environ.get("BALISECHECK_TABLE", str(BUILT if BUILT.exists() else STORED))
 STRICTER = re.compile(
     "(?:row [0-9]+: )?(?:no heading row|two delimiters give a heading row"
     "|a telegram above the headings|heading [a-z]+ twice"
