@@ -58,7 +58,7 @@ def test_other_words(words):
 
 
 def test_requests():
-    """Each request for memory is refused in turn, by itself and with all later ones: the program reports it, or answers as before."""
+    """Each request for memory is refused, alone and with all later ones: the program reports it, or answers as before."""
     program = disturbed()
     for job, (wanted, counts) in zip(jobs(), program.play(jobs())):
         plans = [Plan(first, count) for first in range(1, counts.requests + 2) for count in (1, ALL)]

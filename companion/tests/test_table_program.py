@@ -28,7 +28,7 @@ pytestmark = pytest.mark.uncovered
 BUILT, STORED = TOP / "out" / "balisecheck_table", TOP / "dist" / "x86_64-linux" / "balisecheck_table"
 PROGRAM = os.environ.get("BALISECHECK_TABLE", str(BUILT if BUILT.exists() else STORED))
 STRICTER = re.compile(
-    "(?:row [0-9]+: )?(?:no heading row|two delimiters give a heading row"
+    "(?:row [0-9]+: )?(?:not UTF-8|no heading row|two delimiters give a heading row"
     "|a telegram above the headings|heading [a-z]+ twice"
     "|no (?:group|telegram|aspect|balise)|text to the right of the headings|a blank at an end of the (?:group|aspect)"
     "|the telegram is not hexadecimal|the balise is not a number of up to four digits"
@@ -131,3 +131,27 @@ def test_200_tables_are_read_alike(program: Program, tmp_path: Path) -> None:
 def test_20000_tables_are_read_alike(program: Program, tmp_path: Path) -> None:
     """The two readers agree on many more tables."""
     assert not list(differences(program, tmp_path, 2, 20_000))
+
+
+def cuts_and_flips(random: Random, content: bytes) -> Iterator[bytes]:
+    """The table cut off after each byte, and with one bit of each byte changed."""
+    for at, byte in enumerate(content):
+        yield content[:at]
+        yield content[:at] + bytes([byte ^ 1 << random.randrange(8)]) + content[at + 1 :]
+
+
+def differences_of_changed(program: Program, folder: Path, seed: int, count: int) -> Iterator[str]:
+    """The differences of random tables that were cut off or changed."""
+    random = Random(seed)
+    maker = Maker(random)
+    for _ in range(count):
+        for content in cuts_and_flips(random, table(random, maker)):
+            told = difference(program, content, folder / "table.csv")
+            if told:
+                yield f"{told}\n{content!r}"
+
+
+@pytest.mark.slow
+def test_each_cut_and_a_flip_of_each_byte_of_ten_tables(program: Program, tmp_path: Path) -> None:
+    """The two readers agree on a table that was cut off, or in which a bit was changed."""
+    assert not list(differences_of_changed(program, tmp_path, 3, 10))
