@@ -98,7 +98,7 @@ def _dropped(random: Random, rows: Rows) -> None:
 
 def _digit(random: Random, cell: str) -> str:
     at = random.randrange(len(cell) + 1)
-    return cell[:at] + random.choice(["0", "g", "", ":", "-", "\u00a0"]) + cell[at + 1 :]
+    return cell[:at] + random.choice(["0", "g", "", ":", "-", "."]) + cell[at + 1 :]
 
 
 FAULTS: Sequence[Callable[[Random, Rows], None]] = [
