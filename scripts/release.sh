@@ -41,13 +41,14 @@ key=
 # only a release needs the one that ABOUT lists.
 page=browser/balisecheck.html
 # What is handed out beside the program. The tarball has files of scripts/ and man/ at its top.
-handed=(man/balisecheck.1 balisekit scripts/install.sh scripts/verify-release README.md CHANGELOG.md ERRATA.md
+handed=(man/balisecheck.1 man/balisecheck_table.1 balisekit scripts/install.sh scripts/verify-release README.md CHANGELOG.md ERRATA.md
     LICENSE-APACHE LICENSE-MIT SECURITY.md THIRD-PARTY.md companion dist/RELEASES dist/allowed_signers docs schemas
     examples)
 # What is handed out with the library for C: its header, and how pkg-config and CMake find it.
 with_library=(crates/balisecheck_c/include native/*.pc native/*.cmake)
 # Where the number of the program stands.
-numbered=(VERSION man/balisecheck.1 crates/balisecheck/src/help.rt companion/src/balisekit/__init__.py examples/ci/*.yml)
+numbered=(VERSION man/balisecheck.1 man/balisecheck_table.1 crates/balisecheck/src/help.rt crates/balisecheck_table/src/help.rt
+    companion/src/balisekit/__init__.py examples/ci/*.yml)
 
 fail() {
     echo "release: $1" >&2

@@ -13,12 +13,13 @@ version *const versions[] = {balisecheck_version};
 command *const commands[] = {
     balisecheck_check,  balisecheck_decode,       balisecheck_decode_radio,
     balisecheck_encode, balisecheck_encode_radio, balisecheck_findings,
+    balisecheck_check_table,
 };
 record *const records[] = {balisecheck_telegram, balisecheck_message};
 length *const lengths[] = {
     balisecheck_check_length,  balisecheck_decode_length,       balisecheck_decode_radio_length,
     balisecheck_encode_length, balisecheck_encode_radio_length, balisecheck_telegram_length,
-    balisecheck_message_length, balisecheck_findings_length,
+    balisecheck_message_length, balisecheck_findings_length,    balisecheck_check_table_length,
 };
 
 #define IS(constant, number) _Static_assert((constant) == (number), #constant)

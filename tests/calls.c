@@ -60,6 +60,7 @@ typedef uint32_t record(const uint8_t *, size_t, uint8_t *, size_t, size_t *, st
 
 static const struct { const char *name; command *command; record *record; } calls[] = {
     {"check", balisecheck_check, NULL}, {"findings", balisecheck_findings, NULL},
+    {"check_table", balisecheck_check_table, NULL},
     {"decode", balisecheck_decode, NULL}, {"decode_radio", balisecheck_decode_radio, NULL},
     {"encode", balisecheck_encode, NULL}, {"encode_radio", balisecheck_encode_radio, NULL},
     {"telegram", NULL, balisecheck_telegram}, {"message", NULL, balisecheck_message}};

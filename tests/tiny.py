@@ -6,8 +6,8 @@ from runner import TOP, run
 
 SCRIPTS = ("balisecheck", "scripts/build", "scripts/release.sh", "dist/sources", "dist/hand-over", "tests/dist",
            "tests/steps.sh")
-NUMBERED = ("man/balisecheck.1", "crates/balisecheck/src/help.rt", "companion/src/balisekit/__init__.py",
-            "examples/ci/job.yml")
+NUMBERED = ("man/balisecheck.1", "man/balisecheck_table.1", "crates/balisecheck/src/help.rt",
+            "crates/balisecheck_table/src/help.rt", "companion/src/balisekit/__init__.py", "examples/ci/job.yml")
 CRATES = "# crates\netcs_low:\netcs_high: etcs_low\ntrials_low: etcs_low\nbalisecheck: etcs_high\n"
 EMPTY = [f"crates/{crate}/{name}" for crate in ("etcs_low", "etcs_high", "trials_low", "balisecheck")
           for name in ("src/lib.rt", "specs/Lib.antt", "proofs/Lib.antt", "out/log")]

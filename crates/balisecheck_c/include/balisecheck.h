@@ -65,6 +65,11 @@ uint32_t balisecheck_encode_radio(const uint8_t *input, size_t input_length, uin
 uint32_t balisecheck_findings(const uint8_t *input, size_t input_length, uint8_t *buffer, size_t capacity,
                               size_t *length);
 
+/* The answer of `balisecheck_table` to the bytes of a CSV table, with its text and its status: the findings about the line of
+ * the table, with their rows, or why the table is refused. */
+uint32_t balisecheck_check_table(const uint8_t *input, size_t input_length, uint8_t *buffer, size_t capacity,
+                                 size_t *length);
+
 /* The lengths of their texts. */
 uint32_t balisecheck_check_length(const uint8_t *input, size_t input_length, size_t *length);
 uint32_t balisecheck_decode_length(const uint8_t *input, size_t input_length, size_t *length);
@@ -72,6 +77,7 @@ uint32_t balisecheck_decode_radio_length(const uint8_t *input, size_t input_leng
 uint32_t balisecheck_encode_length(const uint8_t *input, size_t input_length, size_t *length);
 uint32_t balisecheck_encode_radio_length(const uint8_t *input, size_t input_length, size_t *length);
 uint32_t balisecheck_findings_length(const uint8_t *input, size_t input_length, size_t *length);
+uint32_t balisecheck_check_table_length(const uint8_t *input, size_t input_length, size_t *length);
 
 /* Why a record was refused. The program prints the words in the comments. */
 enum balisecheck_reason {
@@ -167,6 +173,9 @@ inline answer encode_radio(const void *input, size_t input_length) {
 }
 inline answer findings(const void *input, size_t input_length) {
     return detail::call(detail::command<balisecheck_findings>, input, input_length);
+}
+inline answer check_table(const void *input, size_t input_length) {
+    return detail::call(detail::command<balisecheck_check_table>, input, input_length);
 }
 inline answer telegram(const void *input, size_t input_length) {
     return detail::call(balisecheck_telegram, input, input_length);

@@ -3,8 +3,8 @@
 //! `include/balisecheck.h` declares the exported functions, and states what their callers must ensure. A
 //! command returns what [`etcs_run::run`] writes for the input, and its status. A record is a telegram or a
 //! radio message: its text becomes its JSON line, or the place of its first fault. Read `commands.rt` first,
-//! with `specs/Answer.antt`, then `findings.rt`, with `specs/Findings.antt`, and then `records.rt`, with
-//! `specs/Records.antt`. Nothing is kept between calls.
+//! with `specs/Answer.antt`, then `tables.rt`, `findings.rt`, with `specs/Findings.antt`, and then `records.rt`,
+//! with `specs/Records.antt`. Nothing is kept between calls.
 #![tactic(auto)]
 
 mod answer;
@@ -12,3 +12,4 @@ mod commands;
 mod fault;
 mod findings;
 mod records;
+mod tables;

@@ -8,8 +8,8 @@
 //! or a device failed. Read `program.rt` first, then `answering.rt`, `text_line_command.rt`,
 //! `text_line_meaning.rt`, `each_text_line.rt` and `text_lines.rt`. The meaning of a line is in
 //! `telegram_lines.rt` and `form_lines.rt`. A stream is decoded in `radio_decoding.rt`, independent of the ends
-//! of its lines. A document is checked as a whole, in `checking.rt`. Standard input and output are not part of
-//! the crate.
+//! of its lines. A document is checked as a whole, in `checking.rt`. [`read_whole`] and [`write_out`] also serve
+//! programs that answer other inputs as a whole. Standard input and output are not part of the crate.
 #![tactic(auto)]
 
 mod answering;
@@ -33,5 +33,7 @@ mod whole_input;
 pub use command::Command;
 pub use counted::Counted;
 pub use error::RunError;
+pub use output::write_out;
 pub use program::{execute, run};
 pub use status::Status;
+pub use whole_input::read_whole;

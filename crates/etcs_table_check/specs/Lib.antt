@@ -4,4 +4,5 @@ pub mod Line
 pub mod FindingRows
 pub mod Verdict
 pub mod ReportText
+pub mod RefusalText
 pub mod Laws

@@ -1,9 +1,10 @@
-//! Tests of tables, from outside: `etcs_rows`, `etcs_table` and `etcs_table_check`. They test what only code can reach: no
-//! command reads a table yet.
+//! Tests of tables, from outside: `etcs_rows`, `etcs_table`, `etcs_table_check` and `etcs_table_run`.
 #![tactic(auto)]
 
 #[cfg(test)]
 mod rows;
+#[cfg(test)]
+mod runs;
 #[cfg(test)]
 mod telegrams;
 #[cfg(test)]

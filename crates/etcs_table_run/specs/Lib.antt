@@ -1,0 +1,2 @@
+pub mod TableOutput
+pub mod Laws
