@@ -103,6 +103,10 @@ class _Struck(NamedTuple):
         if self.styles and any(cell.get("s") in self.styles and len(cell) for cell in row):
             self.rows.append(number)
 
+    def notes(self) -> List[str]:
+        """A note on these rows, if there are any."""
+        return _notes([f"row {number}" for number in self.rows], STRUCK)
+
 
 def read(content: bytes, name: Optional[str], headings: Headings = Headings(), fill_merged: bool = False) -> Sheet:
     """The cells of the sheet of this name, else of the one that has the needed headings."""
@@ -112,13 +116,10 @@ def read(content: bytes, name: Optional[str], headings: Headings = Headings(), f
     with warnings.catch_warnings():
         warnings.simplefilter("ignore")  # (openpyxl warns of what it would not write again)
         try:
-            file = io.BytesIO(content)
-            reader = openpyxl.reader.excel.ExcelReader(file, read_only=True, data_only=True, keep_links=False)
-            reader.read_strings = partial(strings.read, reader)
-            reader.read_chartsheet = partial(_read_chart_sheet, reader)
-            reader.read()
+            reader = _read_by(openpyxl.reader.excel.ExcelReader, content)
             book, named = reader.wb, len(reader.parser.sheets)
             _look_at_workbook(reader)
+            struck = _Struck(_struck_styles(reader.wb), [])
             part_of_strings, shared = _part_of_strings(reader), Strings(reader.shared_strings)
             formulas = _Formulas(_recalculates(reader.archive.read(reader.parser.workbook_part_name)), [], [])
         except Exception as error:
@@ -131,7 +132,6 @@ def read(content: bytes, name: Optional[str], headings: Headings = Headings(), f
         _look_at_names("sheet", [each.title for each in all_sheets])
         sheet, note = _chosen(book, name, headings, fill_merged)
         merged = _merged(sheet)
-        struck = _Struck(_struck_styles(book), [])
         rows, areas = _cells(_rows(sheet, formulas, struck)), _areas(merged)
         found: Dict[str, Found] = {}
         beside = Beside([], [])
@@ -140,12 +140,20 @@ def read(content: bytes, name: Optional[str], headings: Headings = Headings(), f
             names = [each._worksheet_path for each in book.worksheets]
             beside = beside_cells(content, names, part_of_strings, _look_at_parts)
             beside.telegrams.extend([part_of_strings] * shared.telegrams_of_no_cell())
-        notes = (note, *_notes(beside.telegrams, BESIDE), *_notes(beside.not_searched, NOT_SEARCHED))
-        notes += tuple(_notes([f"row {number}" for number in struck.rows], STRUCK))
+        notes = (note, *_notes(beside.telegrams, BESIDE), *_notes(beside.not_searched, NOT_SEARCHED), *struck.notes())
         notes += tuple(_notes(merged, FILLED if fill_merged else MERGED if headings.has_telegrams else UNMERGE))
         others = tuple(other.title for other in all_sheets if other is not sheet)
         how = areas, fill_merged, found, name is not None
         return Sheet("xlsx", "", rows, notes, sheet.title, others, *how, *formulas[1:])
+
+
+def _read_by(make: Callable[..., Any], content: bytes) -> Any:
+    """The reader of openpyxl after it has read all but the cells."""
+    reader = make(io.BytesIO(content), read_only=True, data_only=True, keep_links=False)
+    reader.read_strings = partial(strings.read, reader)
+    reader.read_chartsheet = partial(_read_chart_sheet, reader)
+    reader.read()
+    return reader
 
 
 def _read_chart_sheet(reader: Any, sheet: Any, relation: Any) -> None:
