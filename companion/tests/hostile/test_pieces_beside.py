@@ -43,9 +43,7 @@ def test_pieces_in_a_column(run: Run, table: Write, form: str) -> None:
 
 
 @pytest.mark.parametrize(
-    "beside",
-    [lambda at: [at + 1], lambda at: ["part"], lambda at: [100 + at, at]],
-    ids=["counter", "word", "numbers"],
+    "beside", [lambda at: [at + 1], lambda at: ["part"], lambda at: [100 + at, at]], ids=["counter", "word", "numbers"]
 )
 def test_pieces_in_another_sheet(run: Run, tmp_path: Path, beside: Callable[[int], List[Any]]) -> None:
     """A counter or a word is in the column before the pieces."""

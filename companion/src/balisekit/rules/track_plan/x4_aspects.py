@@ -40,10 +40,10 @@ from typing import Dict, Iterator, List, Optional, Set
 
 from balisekit.rules.line import Line
 from balisekit.rules.passages import Passage
-from balisekit.rules.track_plan.placed import NO_PLACE, SAYS_NOTHING, PlacedPlan, Saying, cells_of, plan_words, remark
 from balisekit.rules.rule import Options, Remark, Result, Rule, Urgency
-from balisekit.rules.track_plan.sites import Site, elsewhere, sites_of
 from balisekit.rules.telegrams import Packet, allowance
+from balisekit.rules.track_plan.placed import NO_PLACE, SAYS_NOTHING, PlacedPlan, Saying, cells_of, plan_words, remark
+from balisekit.rules.track_plan.sites import Site, elsewhere, sites_of
 from balisekit.tables.plan import WAY_WORDS, PlanRow, aspect_name
 from balisekit.tables.plan_values import LENGTHS, STEP, TIMES, Terms, term_words
 
