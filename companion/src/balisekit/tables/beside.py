@@ -8,8 +8,8 @@ from typing import Dict, Iterable, Iterator, List, Mapping, NamedTuple, Sequence
 from balisekit.errors import TableError, TableErrors
 from balisekit.expressions import expression
 from balisekit.tables.account import Account, NotJudged, elsewhere, of_digits, of_formulas
-from balisekit.tables.checksum_columns import are_checksums
 from balisekit.tables.cells import GREATEST_NAME, LINE_END, NEEDED, Sheet, digits, kind_and_text
+from balisekit.tables.checksum_columns import are_checksums
 from balisekit.tables.headings import KILOMETRE, compared, shown
 from balisekit.tables.unread_digits import (
     LEAST_RUN,

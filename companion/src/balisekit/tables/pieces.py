@@ -34,6 +34,8 @@ BREAK = "-"
 """In place of a row without digits, which ends what is looked at."""
 FIRST = re.compile(r"^(?:[^\w\n]|_)*(?:0[xX])?[0fF]*[aA9][01\W_]", re.MULTILINE)
 """A row in which a telegram could begin. Each row is looked at by itself: signs do not lead to the rows below it."""
+BESIDE = re.compile(r"(?<![^\W_])(?:0[xX])?[0fF]*[aA9][01][\W_]?[0-7][0-9A-Fa-f][\W_]?[0-9A-Fa-f]{2}")
+"""The beginning of a telegram beside a counter or a word, in a row that begins with another one."""
 LETTER, FIGURE = re.compile("[A-Fa-f]"), re.compile("[0-9]")
 
 
@@ -209,6 +211,15 @@ def _places(digits: str) -> List[int]:
 
 def _bits(digits: str) -> str:
     return f"{int(digits, 16):0{4 * len(digits)}b}"
+
+
+def without_counters(rows: Sequence[List[str]]) -> Iterator[Sequence[List[str]]]:
+    """The groups of rows in which some may be counters or words: all, the longest ones, all but the first or last."""
+    yield rows
+    if any(len(row) > 1 for row in rows):
+        yield [[max(row, key=len)] if row else [] for row in rows]
+        yield [row[1:] or row for row in rows]
+        yield [row[:-1] or row for row in rows]
 
 
 def in_rows(rows: Sequence[List[str]]) -> Iterator[range]:

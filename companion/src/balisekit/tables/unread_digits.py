@@ -13,8 +13,10 @@ from typing import Dict, List, Sequence, Set
 from balisekit.expressions import expression
 from balisekit.tables.cells import digits, kind_and_text
 from balisekit.tables.pieces import (
+    BESIDE,
     FIRST,
     LENGTHS,
+    VERSIONS,
     are_pieces,
     begins_right,
     has_fill,
@@ -22,6 +24,7 @@ from balisekit.tables.pieces import (
     in_rows,
     is_header,
     is_word,
+    without_counters,
 )
 
 LEAST_DIGITS, LEAST_LETTERS, LEAST_RUN = 40, 4, 13
@@ -114,10 +117,16 @@ def all_groups(text: str) -> List[str]:
 def digits_in_rows(texts: Sequence[str]) -> Dict[int, int]:
     """How many digits those of these rows have, counted from 0, that are a telegram together, one below the other."""
     joined = "\n".join(texts)
-    if "f" not in joined.lower() or not FIRST.search(joined):  # (what ends a telegram is an f and parts of two digits)
-        return {}
+    small = joined.lower()
+    has_version = any(map(small.__contains__, VERSIONS))
+    if "f" not in small or not (FIRST.search(joined) or has_version and BESIDE.search(joined)):
+        return {}  # (what ends a telegram is an f and parts of two digits)
     rows = [all_groups(text) if FIRST.search(text) or len(text) < MOST_IN_ROW else [] for text in texts]
-    return {at: sum(map(len, rows[at])) for found in in_rows(rows) for at in found}
+    counts: Dict[int, int] = {}
+    for some in without_counters(rows):
+        for found in in_rows(some):
+            counts.update({at: sum(map(len, some[at])) for at in found if at not in counts})
+    return counts
 
 
 def _groups(text: str) -> List[str]:

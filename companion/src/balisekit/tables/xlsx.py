@@ -103,6 +103,10 @@ class _Struck(NamedTuple):
         if self.styles and any(cell.get("s") in self.styles and len(cell) for cell in row):
             self.rows.append(number)
 
+    def notes(self) -> List[str]:
+        """A note on these rows, if there are any."""
+        return _notes([f"row {number}" for number in self.rows], STRUCK)
+
 
 def read(content: bytes, name: Optional[str], headings: Headings = Headings(), fill_merged: bool = False) -> Sheet:
     """The cells of the sheet of this name, else of the one that has the needed headings."""
@@ -141,6 +145,8 @@ class _Book(NamedTuple):
     strings: Strings
     recalculates: bool
     """Whether a spreadsheet calculates all formulas when it opens the workbook."""
+    struck: AbstractSet[str]
+    """The numbers of the formats of cells whose font is struck through."""
 
 
 @contextmanager
@@ -152,13 +158,10 @@ def _opened(content: bytes) -> Iterator[_Book]:
     with warnings.catch_warnings():
         warnings.simplefilter("ignore")
         try:
-            file = io.BytesIO(content)
-            reader = openpyxl.reader.excel.ExcelReader(file, read_only=True, data_only=True, keep_links=False)
-            reader.read_strings = partial(strings.read, reader)
-            reader.read_chartsheet = partial(_read_chart_sheet, reader)
-            reader.read()
+            reader = _read_by(openpyxl.reader.excel.ExcelReader, content)
             book, named = reader.wb, len(reader.parser.sheets)
             _look_at_workbook(reader)
+            struck = _struck_styles(reader.wb)
             part_of_strings, shared = _part_of_strings(reader), Strings(reader.shared_strings)
             recalculates = _recalculates(reader.archive.read(reader.parser.workbook_part_name))
         except Exception as error:
@@ -169,17 +172,25 @@ def _opened(content: bytes) -> Iterator[_Book]:
         if len(titles) < named:
             raise TableError(f"{named - len(titles)} of its {named} sheets cannot be found in it: {SHORT_WAY_OUT}")
         _look_at_names("sheet", titles)
-        yield _Book(book, titles, part_of_strings, shared, recalculates)
+        yield _Book(book, titles, part_of_strings, shared, recalculates, struck)
 
 
 def _sheet(book: _Book, sheet: Any) -> Sheet:
     """The cells of one sheet."""
-    formulas, struck = _Formulas(book.recalculates, [], []), _Struck(_struck_styles(book.workbook), [])
+    formulas, struck = _Formulas(book.recalculates, [], []), _Struck(book.struck, [])
     areas = _areas(_merged(sheet))
     rows = _cells(_rows(sheet, formulas, struck))
-    notes = tuple(_notes([f"row {number}" for number in struck.rows], STRUCK))
-    made = Sheet("xlsx", "", rows, notes, sheet.title, merged=areas)
+    made = Sheet("xlsx", "", rows, tuple(struck.notes()), sheet.title, merged=areas)
     return made._replace(not_calculated=formulas.not_calculated, recalculated=formulas.recalculated)
+
+
+def _read_by(make: Callable[..., Any], content: bytes) -> Any:
+    """The reader of openpyxl after it has read all but the cells."""
+    reader = make(io.BytesIO(content), read_only=True, data_only=True, keep_links=False)
+    reader.read_strings = partial(strings.read, reader)
+    reader.read_chartsheet = partial(_read_chart_sheet, reader)
+    reader.read()
+    return reader
 
 
 def _read_chart_sheet(reader: Any, sheet: Any, relation: Any) -> None:

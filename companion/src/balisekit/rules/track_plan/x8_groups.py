@@ -44,8 +44,8 @@ from balisekit.rules.location import NO_DIRECTION
 from balisekit.rules.passages import GroupData, Passage
 from balisekit.rules.rule import Options, Remark, Result, Rule, Urgency
 from balisekit.rules.telegrams import LINKING, Link, Packet, rounding
-from balisekit.rules.track_plan.sites import differing_places, lacks_kilometres
 from balisekit.rules.track_plan.placed import SAYS_NOTHING, PlacedPlan, cells_of, plan_words
+from balisekit.rules.track_plan.sites import differing_places, lacks_kilometres
 from balisekit.tables.names import clean, rows_words
 from balisekit.tables.plan import WAY_WORDS, PlanRow, rows_named
 from balisekit.tables.plan_values import metres
