@@ -17,6 +17,7 @@ from corpus import BALISE, LIST, LONG, SHORT, runs_of
 from hostile import CHECK, COMMANDS, DECODE, DECODE_RADIO, STACK, Job, Library, shared
 from runner import EXAMPLES, TOP, Answer, program, run
 from test_memory import in_turn, refuse
+from test_tables import CASES
 from compare import accepted_of, inputs
 
 FOLDER = pathlib.Path(os.environ.get("BALISECHECK_LIBRARY", TOP / "dist" / "x86_64-linux")).resolve()
@@ -31,7 +32,8 @@ REFUSED, TOO_SMALL = 2, 4
 RECORDS = {"telegram": DECODE, "message": DECODE_RADIO}
 CALLS = {**{"_".join(words).replace("--", ""): words for words in COMMANDS}, "findings": CHECK, **RECORDS}
 LENGTHS = {f"{name}_length": words for name, words in CALLS.items()}
-EXPORTS = {f"balisecheck_{name}" for name in (*CALLS, *LENGTHS)}
+TABLES = "check_table", "check_table_length"  # (balisecheck_table has their answers)
+EXPORTS = {f"balisecheck_{name}" for name in (*CALLS, *LENGTHS, *TABLES)}
 REASONS = dict(re.findall(r"BALISECHECK_\w+ = (\d+),? +/\* (.*?) \*/", HEADER.read_text()))
 # How a parameter is written in C, by its type in Rattle.
 TYPES = {"&[u8]": "const uint8_t *{0}, size_t {0}_length", "&mut [u8]": "uint8_t *{0}, size_t capacity",
@@ -61,6 +63,25 @@ def test_version(kind):
     """It is that of the program."""
     need("cc", "gcc")
     assert Library(kind).version() == (TOP / "VERSION").read_text().strip()
+
+
+@pytest.mark.parametrize("kind", [ARCHIVE, SHARED], ids=lambda path: path.suffix)
+def test_tables(kind):
+    """A table has the answer of balisecheck_table and its length, and a buffer that is too small is reported."""
+    need("cc", "gcc")
+    library = Library(kind)
+    for table, status, text in CASES:
+        data = table.encode()
+        assert library.call("check_table", data) == Answer(status, text, "")
+        assert library.call("check_table_length", data) == Answer(status, str(len(text)), "")
+        assert library.call("check_table", data, len(text) - 1) == Answer(4, "", "")
+
+
+def test_tables_without_memory():
+    """Each request of a table is refused in turn: the call reports it, or answers as before."""
+    need("cc", "gcc")
+    library, jobs = Library(ARCHIVE), [Job(("check_table",), table.encode()) for table, *_ in CASES]
+    refuse(library, [(job, *played) for job, played in zip(jobs, library.play(jobs))], in_turn, "")
 
 
 # ---- ABI
