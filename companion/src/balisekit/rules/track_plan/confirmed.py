@@ -22,6 +22,7 @@ DERIVED = frozenset({"l_packet", "n_total"})
 """What follows from other variables, of those that a record has. N_ITER, and L_PACKET of most packets, are in none."""
 OF_PACKET: Sequence[Path] = (("nid_packet",), ("q_dir",), ("q_scale",))
 """What is confirmed together with what a packet says: where it says it, for which trains, and in which unit."""
+NOBODY = "its row was made from the telegrams, and the column who names nobody"
 Shape = Tuple[Any, ...]
 
 
@@ -100,7 +101,10 @@ class Confirmed:
     def confirm(self, rows: Sequence[PlanRow], packet: Packet, paths: Sequence[Path]) -> None:
         """These rows imply the values of these variables."""
         number = packet.row.number if packet.row else 0
-        rows = [row for row in rows if not row.is_unconfirmed]
+        signed = [row for row in rows if not row.is_unconfirmed]
+        if len(signed) < len(rows):
+            self.pass_over(packet, NOBODY)
+        rows = signed
         for row in rows:
             self.met.setdefault(row.number, set()).add(number)
         if rows and paths and number:
@@ -131,6 +135,7 @@ class Confirmed:
     def of_header(self, row: PlanRow, number: int, key: str, is_same: bool) -> None:
         """A row implies the value of a variable of the header of the telegram in this row, or another one."""
         if is_same and row.is_unconfirmed:
+            self.why.setdefault((number, HEADER), NOBODY)
             return
         rows, bits = (self.met, self.same) if is_same else (self.contradicted, self.other)
         rows.setdefault(row.number, set()).add(number)

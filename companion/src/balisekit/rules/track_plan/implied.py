@@ -8,20 +8,20 @@ from __future__ import annotations
 from bisect import bisect_left, insort
 from collections import Counter
 from decimal import Decimal
-from typing import Dict, Iterator, List, NamedTuple, Sequence, Tuple
+from typing import Callable, Dict, Iterator, List, NamedTuple, Sequence, Tuple
 
 from balisekit.rules.line import Line
 from balisekit.rules.passages import Passage
 from balisekit.rules.rule import Options
-from balisekit.rules.telegrams import AUTHORITIES, allowance
+from balisekit.rules.telegrams import AUTHORITIES, Packet, allowance
 from balisekit.rules.track_plan.borders import NOT_DECODED, NUMBERS, Border, border_of
 from balisekit.rules.track_plan.implied_profiles import Lane, on_track_up_to, profiles
 from balisekit.rules.track_plan.placed import NO_PLACE, PlacedPlan, Saying
 from balisekit.rules.track_plan.stretches import KINDS, compare
 from balisekit.rules.track_plan.x3_ends import gives_way
-from balisekit.rules.track_plan.x4_aspects import AUTHORITY, terms_of
+from balisekit.rules.track_plan.x4_aspects import AUTHORITY, all_terms_of, terms_of
 from balisekit.tables.plan import BORDERS, Plan, PlanRow, aspect_name
-from balisekit.tables.plan_values import GroupTerms, Value
+from balisekit.tables.plan_values import GroupTerms, Terms, Value
 
 NEAR = 500
 """In decimetres: a signal has the name of a group that is as near."""
@@ -44,8 +44,8 @@ class Made(NamedTuple):
     notes: Sequence[str]
 
 
-def implied(line: Line, options: Options) -> Made:
-    """The plan of a table."""
+def implied(line: Line, options: Options, in_full: bool = False) -> Made:
+    """The plan of a table. With `in_full` aspects have every key that a plan can have."""
     placed, skipped = PlacedPlan(line, options), Counter[str]()
     jumps = [PlanRow(0, "jump", jump.before, jump.after, jump.track) for jump in options.jumps]
     stretches = [row for number in KINDS for row in _stretches(placed, number, skipped)]
@@ -56,7 +56,7 @@ def implied(line: Line, options: Options) -> Made:
         *jumps,
         *stretches,
         *_signals(placed, options, skipped),
-        *_aspects(placed),
+        *_aspects(placed, all_terms_of if in_full else terms_of),
         *borders,
         *points,
         *_groups(placed),
@@ -144,7 +144,7 @@ def _clusters(some: Sequence[At]) -> List[Tuple[int, Value]]:
     return [(place, found.most_common(1)[0][0]) for place, found in values.items()]
 
 
-def _aspects(placed: PlacedPlan) -> Iterator[PlanRow]:
+def _aspects(placed: PlacedPlan, of_packet: Callable[[Packet], Terms]) -> Iterator[PlanRow]:
     """What the packet 12 of each aspect gives. The first one counts if there are several."""
     known = set()
     for passage in placed.decoded.passages:
@@ -154,7 +154,7 @@ def _aspects(placed: PlacedPlan) -> Iterator[PlanRow]:
             name, way = aspect_name(group.group.name, passage.aspect), passage.way or 0
             if (name, way) not in known:
                 known.add((name, way))
-                yield PlanRow(0, "aspect", group.km or Decimal(), None, group.track, way, terms_of(own[0]), name)
+                yield PlanRow(0, "aspect", group.km or Decimal(), None, group.track, way, of_packet(own[0]), name)
 
 
 def _groups(placed: PlacedPlan) -> Iterator[PlanRow]:

@@ -36,13 +36,14 @@ from collections import Counter
 from decimal import Decimal
 from typing import Dict, Iterator, List, Mapping, NamedTuple, Optional, Sequence, Set
 
+from balisekit.etcs.geometry import ELEMENT_KEYS
 from balisekit.rules.decoded import Decoded
 from balisekit.rules.line import Line
 from balisekit.rules.passages import GroupData, Passage
 from balisekit.rules.track_plan.confirmed import Path
 from balisekit.rules.track_plan.placed import NO_PLACE, SAYS_NOTHING, PlacedPlan, Saying, cells_of, plan_words, remark
 from balisekit.rules.rule import Options, Remark, Result, Rule, Urgency
-from balisekit.rules.telegrams import Packet, allowance
+from balisekit.rules.telegrams import GRADIENTS, SPEEDS, Packet, allowance
 from balisekit.rules.track_plan.x3_ends import lengths_of
 from balisekit.tables.plan import WAY_WORDS, PlanRow, aspect_name
 from balisekit.tables.plan_values import LENGTHS, STEP, TIMES, Terms, term_words
@@ -148,6 +149,8 @@ def _compare(placed: PlacedPlan, saying: Saying, row: PlanRow, options: Options)
     same = [path for key in row.terms if key not in differ for path in variables[key]]
     placed.confirmed.confirm([row], packet, same)
     placed.confirmed.contradict([row] if differ else [], packet, [path for key in differ for path in variables[key]])
+    if {"end", "overlap"} <= row.terms.keys() - set(differ):
+        _confirm_reach(placed, saying, row)
     if differ:
         texts = [
             f"{FIELDS[key]} is {term_words(key, said.get(key))}, and {term_words(key, row.terms[key])}"
@@ -163,6 +166,17 @@ def _compare(placed: PlacedPlan, saying: Saying, row: PlanRow, options: Options)
                     )
         sentence = f"{' by the plan; '.join(texts)} by {plan_words(row, with_km=False)}"
         yield remark("X4", [saying], sentence, values, [cells_of(row)])
+
+
+def _confirm_reach(placed: PlacedPlan, saying: Saying, row: PlanRow) -> None:
+    """A row with end and overlap implies how far the profiles beside it reach, if they end where the overlap does."""
+    supervised = saying.packet.authority.supervised
+    for profile in saying.passage.of(GRADIENTS, SPEEDS):
+        stretches = profile.stretches
+        allowed = allowance(saying.packet, saying.packet.lengths) + allowance(profile, len(stretches) + 1)
+        if not profile.is_open and stretches and abs((stretches[-1].end or 0) - supervised) <= allowed:
+            mark = [("elements", len(stretches), key) for key in ELEMENT_KEYS[profile.number][:2]]
+            placed.confirmed.confirm([row], profile, mark)
 
 
 def _is_alike(said: Optional[int], wanted: Optional[int], allowed: int) -> bool:

@@ -43,6 +43,7 @@ from balisekit.rules.passages import GroupData, Passage
 from balisekit.rules.rule import Options, Remark, Result, Rule, Urgency
 from balisekit.rules.telegrams import LINKING, Link, Packet, rounding
 from balisekit.rules.track_plan.placed import SAYS_NOTHING, PlacedPlan, cells_of, plan_words
+from balisekit.tables.model import Row
 from balisekit.tables.names import clean, kilometre, quoted, rows_words
 from balisekit.tables.plan import WAY_WORDS, PlanRow, rows_named
 from balisekit.tables.plan_values import metres
@@ -85,7 +86,7 @@ def _headers(placed: PlacedPlan, data: GroupData, group: DesignedGroup) -> Itera
     terms = group.row.group_terms
     rows: Dict[str, List[int]] = {}
     for row, header in ((number, telegram.header) for number, telegram in data.telegrams.items()):
-        _compare_header(placed, group.row, row, header)
+        _compare_header(placed, group.row, data.telegrams[row].row, header)
         identity = header.nid_c, header.nid_bg
         if terms.identity and identity != terms.identity:
             own, wanted = (f"{each[0]}/{each[1]}" for each in (identity, terms.identity))
@@ -99,14 +100,19 @@ def _headers(placed: PlacedPlan, data: GroupData, group: DesignedGroup) -> Itera
         yield text.format("" if len(numbers) == len(data.telegrams) else f" in {rows_words(sorted(numbers))}")
 
 
-def _compare_header(placed: PlacedPlan, row: PlanRow, number: int, header: Header) -> None:
-    """Which variables of the header of the telegram in this row are those of the plan, as far as it states them."""
+def _compare_header(placed: PlacedPlan, row: PlanRow, own: Row, header: Header) -> None:
+    """Which variables of the header of the telegram in this row are those of the plan, as far as it states them.
+
+    The balise at the kilometre that the plan has for a place in the group has to send this place as its N_PIG.
+    """
     terms = row.group_terms
     nid_c, nid_bg = terms.identity or (None, None)
     wanted = {"nid_c": nid_c, "nid_bg": nid_bg, "n_total": terms.balises and terms.balises - 1}
     for key, value in (*wanted.items(), ("q_link", terms.is_linked)):
         if value is not None:
-            placed.confirmed.of_header(row, number, key, getattr(header, key) == value)
+            placed.confirmed.of_header(row, own.number, key, getattr(header, key) == value)
+    if header.n_pig < len(terms.kilometres) and terms.kilometres[header.n_pig] == own.km:
+        placed.confirmed.of_header(row, own.number, "n_pig", True)
 
 
 def _places(line: Line, data: GroupData, group: DesignedGroup, options: Options) -> Iterator[str]:
