@@ -19,7 +19,8 @@ from balisekit.rules.track_plan.implied_profiles import Lane, on_track_up_to, pr
 from balisekit.rules.track_plan.placed import NO_PLACE, PlacedPlan, Saying
 from balisekit.rules.track_plan.stretches import KINDS, compare
 from balisekit.rules.track_plan.x3_ends import gives_way
-from balisekit.rules.track_plan.x4_aspects import AUTHORITY, all_terms_of, terms_of
+from balisekit.rules.track_plan.authorities import all_terms_of, terms_of
+from balisekit.rules.track_plan.x4_aspects import AUTHORITY
 from balisekit.tables.plan import BORDERS, Plan, PlanRow, aspect_name
 from balisekit.tables.plan_values import GroupTerms, Terms, Value
 

@@ -34,38 +34,23 @@ from __future__ import annotations
 
 from collections import Counter
 from decimal import Decimal
-from typing import Dict, Iterator, List, Mapping, NamedTuple, Optional, Sequence, Set
+from typing import Dict, Iterator, List, NamedTuple, Optional, Set
 
-from balisekit.etcs.geometry import ELEMENT_KEYS
 from balisekit.rules.decoded import Decoded
 from balisekit.rules.line import Line
 from balisekit.rules.passages import GroupData, Passage
-from balisekit.rules.track_plan.confirmed import Path
+from balisekit.rules.track_plan.authorities import VARIABLES, all_terms_of, confirm_reach
 from balisekit.rules.track_plan.placed import NO_PLACE, SAYS_NOTHING, PlacedPlan, Saying, cells_of, plan_words, remark
 from balisekit.rules.rule import Options, Remark, Result, Rule, Urgency
-from balisekit.rules.telegrams import GRADIENTS, SPEEDS, Packet, allowance
+from balisekit.rules.telegrams import allowance
 from balisekit.rules.track_plan.x3_ends import lengths_of
 from balisekit.tables.plan import WAY_WORDS, PlanRow, aspect_name
-from balisekit.tables.plan_values import LENGTHS, STEP, TIMES, Terms, term_words
+from balisekit.tables.plan_values import LENGTHS, STEP, TIMES, term_words
 
 AUTHORITY = 12
 FIELDS = {"v": "V_MAIN", "end": "the end of authority", "overlap": "the overlap", "release": "the release speed"}
 FIELDS.update(danger="the danger point", loa="V_LOA", loa_time="T_LOA", end_time="T_ENDTIMER", overlap_time="T_OL")
 FIELDS.update(end_start="D_ENDTIMERSTARTLOC", overlap_start="D_STARTOL")
-NO_TIME_OUT = 1023
-VARIABLES: Mapping[str, Sequence[Path]] = {
-    "v": [("v_main",)],
-    "overlap": [("overlap", "d_ol")],
-    "release": [("overlap", "v_releaseol"), ("danger_point", "v_releasedp")],
-    "danger": [("danger_point", "d_dp")],
-    "loa": [("end_speed",)],
-    "loa_time": [("end_timeout",)],
-    "end_time": [("end_timer", "t_endtimer")],
-    "end_start": [("end_timer", "d_endtimerstartloc")],
-    "overlap_time": [("overlap", "t_ol")],
-    "overlap_start": [("overlap", "d_startol")],
-}
-"""The variables of a packet 12 that a key states. The end is the sum of several."""
 
 
 class Site(NamedTuple):
@@ -100,30 +85,6 @@ def find(line: Line, options: Options) -> Result:
     return placed.result(["aspect"], found, counts)
 
 
-def all_terms_of(packet: Packet) -> Terms:
-    """The same, and the keys that no plan has which is made of telegrams."""
-    form, unit, found = packet.form, packet.unit, dict(terms_of(packet))
-    overlap, danger, timer = form.get("overlap"), form.get("danger_point"), form.get("end_timer")
-    found["danger"] = danger["d_dp"] * unit if danger else None
-    found["loa"] = form["end_speed"]
-    found["end_start"] = timer["d_endtimerstartloc"] * unit if timer else None
-    found["overlap_start"] = overlap["d_startol"] * unit if overlap else None
-    times = {"loa_time": form["end_timeout"]}
-    times.update({"end_time": timer["t_endtimer"]} if timer else {})
-    times.update({"overlap_time": overlap["t_ol"]} if overlap else {})
-    return {**found, **{key: None if time == NO_TIME_OUT else time for key, time in times.items()}}
-
-
-def terms_of(packet: Packet) -> Terms:
-    """What a packet 12 gives, by the keys of a plan's aspect."""
-    authority, overlap, danger = packet.authority, packet.form.get("overlap"), packet.form.get("danger_point")
-    found: Dict[str, Optional[int]] = {"v": packet.form["v_main"], "end": authority.end}
-    found["overlap"] = overlap["d_ol"] * packet.unit if overlap else None
-    if overlap or danger:
-        found["release"] = overlap["v_releaseol"] if overlap else danger["v_releasedp"] if danger else None
-    return found
-
-
 def _name(passage: Passage) -> str:
     return aspect_name(passage.group.group.group.name, passage.aspect) if passage.group else ""
 
@@ -150,7 +111,7 @@ def _compare(placed: PlacedPlan, saying: Saying, row: PlanRow, options: Options)
     placed.confirmed.confirm([row], packet, same)
     placed.confirmed.contradict([row] if differ else [], packet, [path for key in differ for path in variables[key]])
     if {"end", "overlap"} <= row.terms.keys() - set(differ):
-        _confirm_reach(placed, saying, row)
+        confirm_reach(placed, saying, row)
     if differ:
         texts = [
             f"{FIELDS[key]} is {term_words(key, said.get(key))}, and {term_words(key, row.terms[key])}"
@@ -166,17 +127,6 @@ def _compare(placed: PlacedPlan, saying: Saying, row: PlanRow, options: Options)
                     )
         sentence = f"{' by the plan; '.join(texts)} by {plan_words(row, with_km=False)}"
         yield remark("X4", [saying], sentence, values, [cells_of(row)])
-
-
-def _confirm_reach(placed: PlacedPlan, saying: Saying, row: PlanRow) -> None:
-    """A row with end and overlap implies how far the profiles beside it reach, if they end where the overlap does."""
-    supervised = saying.packet.authority.supervised
-    for profile in saying.passage.of(GRADIENTS, SPEEDS):
-        stretches = profile.stretches
-        allowed = allowance(saying.packet, saying.packet.lengths) + allowance(profile, len(stretches) + 1)
-        if not profile.is_open and stretches and abs((stretches[-1].end or 0) - supervised) <= allowed:
-            mark = [("elements", len(stretches), key) for key in ELEMENT_KEYS[profile.number][:2]]
-            placed.confirmed.confirm([row], profile, mark)
 
 
 def _is_alike(said: Optional[int], wanted: Optional[int], allowed: int) -> bool:
