@@ -40,6 +40,7 @@ FILES = {
     "show --bits": "--all",
     "links": "--json j --explain",
     "table": "--csv c.csv --xlsx x.xlsx",
+    "design": "--csv c.csv",
     "plan": "--csv c.csv",
     "draw --all": "",
 }

@@ -24,7 +24,8 @@ COMMANDS = {
     "certify": "make mistakes in a table, and count which of them `check` would find",
     "links": "compare linking, link flags and profiles with the kilometres of a table",
     "diff": "compare two releases of a line, field by field",
-    "plan": "write the track plan that the telegrams of a table imply, for you to correct",
+    "design": "write the design that the telegrams of a table imply, for you to correct and confirm",
+    "plan": "the older name of design: write a track plan without the column who",
     "table": "write all variables of a table as one flat sheet, or compare the table with such a sheet",
 }
 """The commands, each a module of this folder, and what their help says."""

@@ -89,6 +89,10 @@ NAMED_KINDS = {"aspect": "an aspect needs a name: SIGNAL/ASPECT", "group": "a gr
 
 THE_PLAN = "the plan"
 """What a sentence calls the only file of a design that is named as a plan."""
+MADE = "Made from the telegrams: it confirms nothing. A row confirms once an engineer has written a name in who."
+"""The first line of a design that `balisekit design` has written."""
+MARK = MADE.index(":")
+"""How many letters of this line show that a design was made, whatever follows."""
 ROWS_OF_SHEET = 1 << 32
 """More rows than a sheet can have."""
 Meaning = TypeVar("Meaning")
@@ -271,8 +275,9 @@ def rows_of(
     """
     place, places = _head(sheet, headings)
     sheet.look_at_calculated(place + 1, len(sheet.rows[place]), places)
+    is_made = any(cell.strip().startswith(MADE[:MARK]) for row in sheet.rows[:place] for cell in row)
     rows = _rows(sheet, place, places, kind)
-    return tuple(row._replace(number=before + row.number, source=source) for row in rows)
+    return tuple(row._replace(number=before + row.number, source=source, is_made=is_made) for row in rows)
 
 
 def refuse_clashes(rows: Sequence[PlanRow]) -> None:

@@ -4,9 +4,10 @@ Variables are bits of whole numbers, by their order in a packet: a table of 10,0
 """
 from __future__ import annotations
 
+from collections import defaultdict
 from dataclasses import dataclass, field
 from functools import lru_cache
-from typing import Any, Dict, List, Mapping, NamedTuple, Sequence, Set, Tuple
+from typing import Any, DefaultDict, Dict, List, Mapping, NamedTuple, Sequence, Set, Tuple
 
 from balisekit.rules.telegrams import Packet
 from balisekit.tables.plan import PlanRow
@@ -22,6 +23,7 @@ DERIVED = frozenset({"l_packet", "n_total"})
 """What follows from other variables, of those that a record has. N_ITER, and L_PACKET of most packets, are in none."""
 OF_PACKET: Sequence[Path] = (("nid_packet",), ("q_dir",), ("q_scale",))
 """What is confirmed together with what a packet says: where it says it, for which trains, and in which unit."""
+NOBODY = "its row was made from the telegrams, and the column who names nobody"
 Shape = Tuple[Any, ...]
 
 
@@ -90,9 +92,9 @@ class Confirmed:
     """Those that a row contradicts."""
     why: Dict[Place, str] = field(default_factory=dict)
     """Why something of a packet is not compared."""
-    met: Dict[int, Set[int]] = field(default_factory=dict)
+    met: DefaultDict[int, Set[int]] = field(default_factory=lambda: defaultdict(set))
     """By the number of a row of the design: the rows of the telegrams that meet it. Messages are in none."""
-    contradicted: Dict[int, Set[int]] = field(default_factory=dict)
+    contradicted: DefaultDict[int, Set[int]] = field(default_factory=lambda: defaultdict(set))
     """The rows of the telegrams that contradict it."""
     uncovered: Set[int] = field(default_factory=set)
     """The rows of the design that no telegram states, or whose name the table lacks."""
@@ -100,16 +102,20 @@ class Confirmed:
     def confirm(self, rows: Sequence[PlanRow], packet: Packet, paths: Sequence[Path]) -> None:
         """These rows imply the values of these variables."""
         number = packet.row.number if packet.row else 0
-        rows = [row for row in rows if not row.is_unconfirmed]
+        is_signed = False
         for row in rows:
-            self.met.setdefault(row.number, set()).add(number)
-        if rows and paths and number:
+            if row.is_made and not row.who:
+                self.pass_over(packet, NOBODY)
+            else:
+                self.met[row.number].add(number)
+                is_signed = True
+        if is_signed and paths and number:
             self._add(self.same, packet, [*paths, *OF_PACKET])
 
     def contradict(self, rows: Sequence[PlanRow], packet: Packet, paths: Sequence[Path]) -> None:
         """These rows imply other values of these variables."""
         for row in rows:
-            self.contradicted.setdefault(row.number, set()).add(packet.row.number if packet.row else 0)
+            self.contradicted[row.number].add(packet.row.number if packet.row else 0)
         if packet.row:
             self._add(self.other, packet, paths)
 
@@ -131,9 +137,10 @@ class Confirmed:
     def of_header(self, row: PlanRow, number: int, key: str, is_same: bool) -> None:
         """A row implies the value of a variable of the header of the telegram in this row, or another one."""
         if is_same and row.is_unconfirmed:
+            self.why.setdefault((number, HEADER), NOBODY)
             return
         rows, bits = (self.met, self.same) if is_same else (self.contradicted, self.other)
-        rows.setdefault(row.number, set()).add(number)
+        rows[row.number].add(number)
         place = number, HEADER
         bits[place] = bits.get(place, 0) | HEADER_BITS[(key,)]
 
@@ -151,7 +158,7 @@ class Confirmed:
             self.why.setdefault(place, why)
         for rows, further in ((self.met, other.met), (self.contradicted, other.contradicted)):
             for number, telegrams in further.items():
-                rows.setdefault(number, set()).update(telegrams)
+                rows[number] |= telegrams
         self.uncovered |= other.uncovered
 
     def words(self, place: Place, known: int, comparable: int, derived: int) -> Words:

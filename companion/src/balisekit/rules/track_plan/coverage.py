@@ -6,13 +6,23 @@ from typing import Collection, Dict, Iterable, List, Mapping, NamedTuple, Sequen
 
 from balisekit.rules.decoded import Decoded
 from balisekit.rules.telegrams import Packet
-from balisekit.rules.track_plan.confirmed import DERIVED, HEADER, HEADER_BITS, OF_PACKET, Confirmed, Path, Place, Words
+from balisekit.rules.track_plan.confirmed import (
+    DERIVED,
+    HEADER,
+    HEADER_BITS,
+    NOBODY,
+    OF_PACKET,
+    Confirmed,
+    Path,
+    Place,
+    Words,
+)
 from balisekit.tables.plan import Plan, PlanRow
 
 FREE = "other"
 """The column of a matrix for what the design has no kind for."""
 HEADER_KIND = "group"
-OF_HEADER = frozenset({"nid_c", "nid_bg", "q_link"})
+OF_HEADER = frozenset({"nid_c", "nid_bg", "q_link", "n_pig"})
 """The variables of a header that a row of kind `group` states."""
 COMPARED: Mapping[int, Tuple[str, Tuple[str, ...]]] = {
     5: ("group", ("d_link", "q_linkorientation", "nid_c", "nid_bg")),
@@ -171,5 +181,5 @@ def _row_word(confirmed: Confirmed, row: PlanRow) -> RowWord:
     if row.number in confirmed.met:
         return RowWord(row, "met", sorted(confirmed.met[row.number]))
     if row.is_unconfirmed:
-        return RowWord(row, "not compared", why="made from the telegrams, and nobody is named in the column who")
+        return RowWord(row, "not compared", why=NOBODY)
     return RowWord(row, "not compared", why=OF_WAY if row.kind in ("jump", "point") else NOT_TOLD)

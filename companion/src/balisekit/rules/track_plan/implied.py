@@ -8,23 +8,23 @@ from __future__ import annotations
 from bisect import bisect_left, insort
 from collections import Counter
 from decimal import Decimal
-from typing import Dict, Iterator, List, NamedTuple, Sequence, Tuple
+from typing import Callable, Dict, Iterator, List, NamedTuple, Sequence, Tuple
 
 from balisekit.design.tracks import Tracks
 from balisekit.rules.line import Line
 from balisekit.rules.passages import GroupData, Passage
 from balisekit.rules.rule import Options
-from balisekit.rules.telegrams import AUTHORITIES, allowance
+from balisekit.rules.telegrams import AUTHORITIES, Packet, allowance
 from balisekit.rules.track_plan import things
 from balisekit.rules.track_plan.borders import NOT_DECODED, NUMBERS, Border, border_of
 from balisekit.rules.track_plan.implied_profiles import Lane, on_track_up_to, profiles
 from balisekit.rules.track_plan.placed import NO_PLACE, PlacedPlan, Saying
 from balisekit.rules.track_plan.stretches import KINDS, compare
 from balisekit.rules.track_plan.x3_ends import gives_way
-from balisekit.rules.track_plan.aspect_terms import AUTHORITY, terms_of
+from balisekit.rules.track_plan.aspect_terms import AUTHORITY, all_terms_of, terms_of
 from balisekit.tables.plan import BORDERS, Plan, PlanRow, aspect_name
 from balisekit.tables.plan_things import ENDING
-from balisekit.tables.plan_values import GroupTerms, Value
+from balisekit.tables.plan_values import GroupTerms, Terms, Value
 
 NEAR = 500
 """In decimetres: a signal has the name of a group that is as near."""
@@ -47,8 +47,8 @@ class Made(NamedTuple):
     notes: Sequence[str]
 
 
-def implied(line: Line, options: Options) -> Made:
-    """The plan of a table."""
+def implied(line: Line, options: Options, in_full: bool = False) -> Made:
+    """The plan of a table. With `in_full` aspects have every key that a plan can have."""
     placed, skipped = PlacedPlan(line, options), Counter[str]()
     jumps = [PlanRow(0, "jump", jump.before, jump.after, jump.track) for jump in options.jumps]
     stretches = [row for number in KINDS for row in _stretches(placed, number, skipped)]
@@ -59,7 +59,7 @@ def implied(line: Line, options: Options) -> Made:
         *jumps,
         *stretches,
         *_signals(placed, options, skipped),
-        *_aspects(placed),
+        *_aspects(placed, all_terms_of if in_full else terms_of),
         *borders,
         *points,
         *_groups(placed),
@@ -148,7 +148,7 @@ def _clusters(some: Sequence[At]) -> List[Tuple[int, Value]]:
     return [(place, found.most_common(1)[0][0]) for place, found in values.items()]
 
 
-def _aspects(placed: PlacedPlan) -> Iterator[PlanRow]:
+def _aspects(placed: PlacedPlan, of_packet: Callable[[Packet], Terms]) -> Iterator[PlanRow]:
     """What the packet 12 of each aspect gives. The first one counts if there are several.
 
     Other aspects of such a signal have a row too, which says that they have no packet 12.
@@ -161,7 +161,7 @@ def _aspects(placed: PlacedPlan) -> Iterator[PlanRow]:
             name, way = aspect_name(group.group.name, passage.aspect), passage.way or 0
             if (name, way) not in known:
                 known[name, way] = passage.group
-                yield PlanRow(0, "aspect", group.km or Decimal(), None, group.track, way, terms_of(own[0]), name)
+                yield PlanRow(0, "aspect", group.km or Decimal(), None, group.track, way, of_packet(own[0]), name)
     names = {name for name, _ in known}
     for data in dict.fromkeys(known.values()):
         for aspect in data.group.group.aspects:

@@ -41,36 +41,22 @@ How to accept it. State why the packet differs from the route table, for example
 from __future__ import annotations
 
 from collections import Counter
-from typing import Iterator, List, Mapping, Sequence, Set
+from typing import Iterator, List, Set
 
 from balisekit.rules.line import Line
 from balisekit.rules.passages import Passage
 from balisekit.rules.rule import Options, Remark, Result, Rule, Urgency
-from balisekit.rules.telegrams import Packet
 from balisekit.rules.track_plan.aspect_sites import Site, of_other_packets, sites_of
 from balisekit.rules.track_plan.aspect_terms import AUTHORITY, all_terms_of, allowances, both, is_alike, values_of
-from balisekit.rules.track_plan.confirmed import Path
+from balisekit.rules.track_plan.authorities import confirm_authority
 from balisekit.rules.track_plan.placed import NO_PLACE, SAYS_NOTHING, Counts, PlacedPlan, Saying, cells_of
 from balisekit.rules.track_plan.placed import plan_words, remark
 from balisekit.rules.track_plan.sites import elsewhere
-from balisekit.rules.track_plan.x3_ends import lengths_of, other_signal
+from balisekit.rules.track_plan.x3_ends import other_signal
 from balisekit.tables.plan import WAY_WORDS, PlanRow, aspect_name
 from balisekit.tables.plan_values import OTHER_KEYS
 
 REFUSED = "a refused telegram of the aspect"
-VARIABLES: Mapping[str, Sequence[Path]] = {
-    "v": [("v_main",)],
-    "overlap": [("overlap", "d_ol")],
-    "release": [("overlap", "v_releaseol"), ("danger_point", "v_releasedp")],
-    "danger": [("danger_point", "d_dp")],
-    "loa": [("end_speed",)],
-    "loa_time": [("end_timeout",)],
-    "end_time": [("end_timer", "t_endtimer")],
-    "end_start": [("end_timer", "d_endtimerstartloc")],
-    "overlap_time": [("overlap", "t_ol")],
-    "overlap_start": [("overlap", "d_startol")],
-}
-"""The variables of a packet 12 that a key states. The end is the sum of several."""
 
 
 def find(line: Line, options: Options) -> Result:
@@ -119,7 +105,7 @@ def _compare(placed: PlacedPlan, saying: Saying, row: PlanRow, options: Options,
     differ = [key for key in stated if not is_alike(key, said.get(key), row.terms[key], allowed.get(key, 0))]
     texts = [both(key, said.get(key), row.terms[key]) for key in differ]
     values = {name: value for key in differ for name, value in values_of(key, said.get(key), row.terms[key])}
-    _confirm(placed, packet, row, stated, differ)
+    confirm_authority(placed, saying, row, stated, differ)
     if "to" in row.terms:
         differing, why = other_signal(placed, saying, str(row.terms["to"]), options)
         counts.update({why: counts.get(why, 0) + 1} if why else {})
@@ -128,13 +114,6 @@ def _compare(placed: PlacedPlan, saying: Saying, row: PlanRow, options: Options,
     if texts:
         sentence = f"{' by the plan; '.join(texts)} by {plan_words(row, with_km=False)}"
         yield remark("X4", [saying], sentence, values, [cells_of(row)])
-
-
-def _confirm(placed: PlacedPlan, packet: Packet, row: PlanRow, stated: Sequence[str], differ: Sequence[str]) -> None:
-    """Takes down which variables of a packet 12 the row confirms, and which it contradicts."""
-    variables = {**VARIABLES, "end": lengths_of(packet), "sections": lengths_of(packet)}
-    placed.confirmed.confirm([row], packet, [path for key in stated if key not in differ for path in variables[key]])
-    placed.confirmed.contradict([row] if differ else [], packet, [path for key in differ for path in variables[key]])
 
 
 def _lacking(site: Site, row: PlanRow) -> Remark:

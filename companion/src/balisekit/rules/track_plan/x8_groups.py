@@ -37,17 +37,17 @@ from decimal import Decimal
 from typing import Dict, Iterator, List, Tuple
 
 from balisekit.design.groups import DesignedGroup, DesignedGroups, link
-from balisekit.engine.records import Header
 from balisekit.etcs.geometry import NOMINAL
 from balisekit.rules.line import Line
 from balisekit.rules.location import NO_DIRECTION
 from balisekit.rules.passages import GroupData, Passage
 from balisekit.rules.rule import Options, Remark, Result, Rule, Urgency
 from balisekit.rules.telegrams import LINKING, Link, Packet, rounding
+from balisekit.rules.track_plan.headers import differing_headers
 from balisekit.rules.track_plan.placed import SAYS_NOTHING, PlacedPlan, cells_of, plan_words
 from balisekit.rules.track_plan.sites import differing_places, lacks_kilometres
-from balisekit.tables.names import clean, rows_words
-from balisekit.tables.plan import WAY_WORDS, PlanRow, rows_named
+from balisekit.tables.names import clean
+from balisekit.tables.plan import WAY_WORDS, rows_named
 from balisekit.tables.plan_values import metres
 
 REFUSED = "no telegram is read"
@@ -73,7 +73,7 @@ def _of_group(
     placed: PlacedPlan, line: Line, data: GroupData, group: DesignedGroup, options: Options, counts: Dict[str, int]
 ) -> Iterator[Remark]:
     """One remark on all that differs in a group."""
-    differ = [*_headers(placed, data, group), *differing_places(line, data, group, options)]
+    differ = [*differing_headers(placed, data, group), *differing_places(line, data, group, options)]
     counts[NO_KILOMETRES] += lacks_kilometres(data, group)
     if group.nominal and data.group.rising is None:
         counts[NO_DIRECTION] += 1
@@ -83,36 +83,6 @@ def _of_group(
     if differ:
         sentence = f"{' by the plan; '.join(differ)} by {plan_words(group.row, with_km=False)}"
         yield Remark("X8", data.location(), sentence, facts=[cells_of(group.row)])
-
-
-def _headers(placed: PlacedPlan, data: GroupData, group: DesignedGroup) -> Iterator[str]:
-    """What differs in the headers: each other value once, with its rows."""
-    terms = group.row.group_terms
-    balises = terms.balises or len(terms.kilometres)
-    rows: Dict[str, List[int]] = {}
-    for row, header in ((number, telegram.header) for number, telegram in data.telegrams.items()):
-        _compare_header(placed, group.row, row, header)
-        identity = header.nid_c, header.nid_bg
-        if terms.identity and identity != terms.identity:
-            own, wanted = (f"{each[0]}/{each[1]}" for each in (identity, terms.identity))
-            rows.setdefault(f"NID_C and NID_BG are {own}{{}}, and {wanted}", []).append(row)
-        if balises and header.n_total + 1 != balises:
-            text = f"N_TOTAL is {header.n_total} ({header.n_total + 1} balises){{}}, and {balises - 1}"
-            rows.setdefault(text, []).append(row)
-        if terms.is_linked is not None and bool(header.q_link) != terms.is_linked:
-            rows.setdefault(f"Q_LINK is {int(header.q_link)}{{}}, and {int(terms.is_linked)}", []).append(row)
-    for text, numbers in rows.items():
-        yield text.format("" if len(numbers) == len(data.telegrams) else f" in {rows_words(sorted(numbers))}")
-
-
-def _compare_header(placed: PlacedPlan, row: PlanRow, number: int, header: Header) -> None:
-    """Which variables of the header of the telegram in this row are those of the plan, as far as it states them."""
-    terms = row.group_terms
-    nid_c, nid_bg = terms.identity or (None, None)
-    wanted = {"nid_c": nid_c, "nid_bg": nid_bg, "n_total": terms.balises and terms.balises - 1}
-    for key, value in (*wanted.items(), ("q_link", terms.is_linked)):
-        if value is not None:
-            placed.confirmed.of_header(row, number, key, getattr(header, key) == value)
 
 
 def _of_links(
