@@ -22,6 +22,7 @@ from balisekit.rules.track_plan.placed import NO_PLACE, PlacedPlan, Saying
 from balisekit.rules.track_plan.stretches import KINDS, compare
 from balisekit.rules.track_plan.x3_ends import gives_way
 from balisekit.rules.track_plan.aspect_terms import AUTHORITY, terms_of
+from balisekit.tables.chainage import rounding
 from balisekit.tables.plan import BORDERS, Plan, PlanRow, aspect_name
 from balisekit.tables.plan_things import ENDING
 from balisekit.tables.plan_values import GroupTerms, Value
@@ -63,7 +64,12 @@ def implied(line: Line, options: Options) -> Made:
         *borders,
         *points,
         *_groups(placed),
-        *(row for kind in things.KINDS for row in _things(line, options, kind, points, skipped)),
+        *(
+            row
+            for kind in things.KINDS
+            if things.is_compared(kind, options)
+            for row in _things(line, options, kind, points, skipped)
+        ),
     ]
     numbered = [row._replace(number=number) for number, row in enumerate(rows, 2)]
     return Made(numbered, [f"{count} packets are not in the plan: {why}" for why, count in skipped.items()])
@@ -195,7 +201,7 @@ def _things(
             skipped[NO_PLACE] += 1
             continue
         known = list(Tracks(Plan(rows=tuple(rows)), options.jumps).areas(kind, start))
-        allowed = placed.decoded.tolerance(options.tolerance, allowance(thing.saying.packet, thing.lengths + 1))
+        allowed = placed.decoded.tolerance(options.tolerance, rounding(thing.unit, thing.lengths + 1))
         same = (each for each in known if each.row.terms == thing.terms)
         if any(not any(things.places_differ(thing, each, (allowed, allowed))) for each in same):
             continue
