@@ -59,7 +59,7 @@ class Comparison:
         if why or start is None:
             self._lacking.add((thing.kind, clean(passage.track)))
             return
-        rows = meant(thing, list(self._placed.tracks.areas(thing.kind, start)))
+        rows = meant(thing, self._placed.tracks, start)
         self._named.update(area.row.number for area in rows)
         texts = list(self._differing(thing, start, rows[0])) if rows else []
         if texts:
@@ -110,10 +110,10 @@ class Comparison:
         """Compares the packets 66 with the numbers of the rows."""
         for saying in self._placed.sayings(REVOCATION):
             start, number = self._placed.start(saying.passage), dict(saying.packet.form).get("nid_tsr")
-            areas = list(self._placed.tracks.areas("tsr", start)) if start else []
-            why = NO_PLACE if start is None else "" if areas else SAYS_NOTHING
+            rows = self._placed.plan.places("tsr", start.track, start.way) if start else ()
+            why = NO_PLACE if start is None else "" if rows else SAYS_NOTHING
             self.counts[why] += 1
-            if not why and number not in [area.row.terms.get("id", number) for area in areas]:
+            if not why and number not in [row.terms.get("id", number) for row in rows]:
                 sentence = f"NID_TSR is {number}, and no row tsr of the plan has this number"
-                facts = [cells_of(area.row) for area in areas]
+                facts = list(map(cells_of, rows))
                 self.found.setdefault(("revocation", sentence), ([], facts))[0].append(saying)

@@ -3,7 +3,7 @@ from __future__ import annotations
 
 from typing import Any, Dict, Iterator, Mapping, NamedTuple, Sequence, Tuple
 
-from balisekit.design.tracks import Area
+from balisekit.design.tracks import Area, Start, Tracks
 from balisekit.etcs.raw_layouts import layout_of
 from balisekit.etcs.raw_packets import content_of
 from balisekit.etcs.variables import UNITS
@@ -170,15 +170,14 @@ READERS = {"tsr": _restrictions, "condition": _conditions, "reversing": _areas, 
 READERS.update(crossing=_crossings, traction=_tractions, stop_in_sr=_stop_in_sr, shunting=_shunting)
 
 
-def meant(thing: Thing, areas: Sequence[Area]) -> Sequence[Area]:
+def meant(thing: Thing, tracks: Tracks, start: Start) -> Sequence[Area]:
     """The row that a thing states, or none: of its number, or else where it is, and of those the nearest one."""
     key = IDENTIFYING.get(thing.kind, "")
     own = thing.terms.get(key)
+    reach = FAR if thing.kind == "tsr" and own is not None else NEAR
+    areas = list(tracks.areas(thing.kind, start, thing.begin - reach, thing.end + reach))
     same = [each for each in areas if key in each.row.terms and each.row.terms[key] == own]
-    is_number = thing.kind == "tsr" and own is not None
-    near = [each for each in same if is_number and _apart(thing, each) <= FAR]
-    near = near or [each for each in same if _apart(thing, each) <= NEAR]
-    near = near or [each for each in areas if _apart(thing, each) <= NEAR]
+    near = same or [each for each in areas if _apart(thing, each) <= NEAR]
     return sorted(near, key=lambda each: abs(each.begin - thing.begin) + abs(each.end - thing.end))[:1]
 
 
