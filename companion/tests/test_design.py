@@ -21,6 +21,9 @@ gradient,12.500,14.000,1,,-3,
 signal,11.500,,1,rising,,Signal 2
 signal,13.500,,1,rising,,Signal 3
 point,13.000,,1,rising,,
+tsr,10.500,11.000,1,rising,v=40,
+tsr,11.800,13.500,1,,v=60,
+stop_in_sr,12.000,,1,rising,stop=yes,
 """
 Said = List[Tuple[int, int, int, int]]
 """From one distance to another one in metres, what is sent, and the row of the plan."""
@@ -67,3 +70,26 @@ def test_places_with_one_row(tracks: Tracks) -> None:
     assert tracks.place("1", Decimal("12.250")) is None and tracks.place("2", Decimal("12.250")) == 122_500
     assert not tracks.is_lost("signal", Start("1", 1, 100_000), 134_000, 10)
     assert tracks.spots("point", "1", 1)[0].place == 129_000
+
+
+@pytest.mark.parametrize(
+    "kind, way, km, begin, end, said",
+    [
+        ("tsr", 1, "10.400", 0, 50, []),
+        ("tsr", 1, "10.400", 0, 100, [(100, 600, 11)]),
+        ("tsr", 1, "10.400", 0, 9000, [(100, 600, 11), (1400, 3000, 12)]),
+        ("tsr", 1, "12.000", 0, 100, [(-200, 1400, 12)]),
+        ("tsr", -1, "13.600", 0, 100, [(100, 1700, 12)]),
+        ("tsr", -1, "10.400", -9000, 9000, [(-3000, -1400, 12)]),
+        ("stop_in_sr", 1, "12.000", 0, 0, [(0, 0, 13)]),
+        ("stop_in_sr", -1, "12.000", 0, 0, []),
+    ],
+)
+def test_areas(
+    tracks: Tracks, kind: str, way: int, km: str, begin: int, end: int, said: List[Tuple[int, int, int]]
+) -> None:
+    """Those of which anything is between the two distances, whole, in the direction of passage."""
+    place = tracks.place("1", Decimal(km))
+    assert place is not None
+    found = tracks.areas(kind, Start("1", way, place), begin * 10, end * 10)
+    assert [(each.begin // 10, each.end // 10, each.row.number) for each in found] == said

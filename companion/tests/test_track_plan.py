@@ -1208,6 +1208,45 @@ def test_areas_that_mean_nothing(tmp_path: Path, row: str, why: str) -> None:
     assert [each.why for each in raised.value.faults] == [why]
 
 
+def with_uncertain(rows: List[Row]) -> None:
+    """Signal 3 announces a level crossing, and a change of the traction system."""
+    crossing_bits = [bits(1, 2), bits(5, 8), bits(700, 15), bits(20, 15), "1", bits(8, 7), "1", bits(50, 15)]
+    traction_bits = [bits(1, 2), bits(900, 15), bits(2, 4), bits(352, 10)]
+    fixed(rows, "Signal 3").extend([raw(88, 1, "".join(crossing_bits)), raw(39, 1, "".join(traction_bits))])
+
+
+CERTAIN = Options(layouts=frozenset({39, 88}))
+
+
+@pytest.mark.parametrize(
+    "kind, cells, said",
+    [
+        ("crossing", {"value": "id=6"}, "NID_LX: 5, and 6 by row "),
+        ("crossing", {"value": "v=50"}, "V_LX: 40 km/h, and 50 km/h by row "),
+        ("crossing", {"value": "protected=yes"}, "Q_LXSTATUS protects: no, and yes by row "),
+        ("crossing", {"value": "id=5 stop=no"}, "Q_STOPLX stops trains: yes, and no by row "),
+        ("crossing", {"km": "13.690"}, "the level crossing begins at km 13.700, and at km 13.690 by row "),
+        ("traction", {"value": "voltage=3"}, "M_VOLTAGE: 2, and 3 by row "),
+        ("traction", {"value": "country=353"}, "NID_CTRACTION: 352, and 353 by row "),
+        ("traction", {"km": "14.400"}, "it has the change of the traction system at km 13.900, and the plan has none"),
+    ],
+)
+def test_x10_of_layouts_that_are_not_certain(
+    program: Program, tmp_path: Path, kind: str, cells: Cells, said: str
+) -> None:
+    """They are compared only if the project names them, and else the rows are counted."""
+    line = read(program, written(program, tmp_path / "t.csv", Line(), with_uncertain))
+    assert not [row for row in implied_rows(line) if row["kind"] in ("crossing", "traction")]
+    rows = implied_rows(line, CERTAIN)
+    assert of_kind(rows, "crossing")["value"] == "id=5 protected=no v=40 stop=yes"
+    assert not remarks(line, rows, tmp_path, CERTAIN)
+    wrong = [{**row, **cells} if row["kind"] == kind else row for row in rows]
+    found = remarks(line, wrong, tmp_path, CERTAIN)
+    assert {each.rule for each in found} == {"X10"} and any(each.sentence.startswith(said) for each in found), found
+    result = results(line, wrong, tmp_path)["X10"]
+    assert not result.found and list(result.not_looked_at.values()) == [2] and result.is_empty
+
+
 def lost_by(row: Cells, rows: List[Cells]) -> bool:
     """Whether the loss of a row leaves others of its kind, and, of a profile, one before it that then goes on."""
     own = [each for each in rows if each["kind"] == row["kind"]]

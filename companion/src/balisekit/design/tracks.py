@@ -6,7 +6,7 @@ from __future__ import annotations
 
 from bisect import bisect_left, bisect_right
 from decimal import Decimal
-from typing import Dict, Iterator, NamedTuple, Optional, Sequence
+from typing import Dict, Iterator, NamedTuple, Optional, Sequence, Tuple
 
 from balisekit.tables.chainage import Chainage, Jump
 from balisekit.tables.names import clean
@@ -53,6 +53,14 @@ class Area(NamedTuple):
     """The same as the beginning for a row with one place."""
 
 
+class Placed(NamedTuple):
+    """A row of the plan from one place to another one."""
+
+    row: PlanRow
+    low: int
+    high: int
+
+
 class Element(NamedTuple):
     """What a profile of a group has to say between two distances from it, and the row of the design that says so."""
 
@@ -72,6 +80,7 @@ class Tracks:
         self._begins: Dict[Lane, Sequence[int]] = {}
         self._spots: Dict[Lane, Sequence[Spot]] = {}
         self._lost: Dict[Lane, Sequence[int]] = {}
+        self._areas: Dict[Lane, Tuple[Sequence[Placed], Sequence[int], int]] = {}
 
     def chainage(self, track: str) -> Chainage:
         """The kilometres of a track."""
@@ -130,12 +139,26 @@ class Tracks:
         place = self.place(row.track, row.km)
         return [] if place is None else [place]
 
-    def areas(self, kind: str, start: Start) -> Iterator[Area]:
-        """What the rows of a kind state for the trains that pass a group, of the whole track."""
-        for row in self._plan.places(kind, start.track, start.way):
+    def areas(self, kind: str, start: Start, begin: int, end: int) -> Iterator[Area]:
+        """What the rows of a kind state for the trains that pass a group, if any of it is between two distances."""
+        lane = kind, start.track, start.way
+        if lane not in self._areas:
+            self._areas[lane] = self._all_areas(lane)
+        found, lows, longest = self._areas[lane]
+        low, high = sorted((start.at(begin), start.at(end)))
+        for each in found[bisect_left(lows, low - longest) : bisect_right(lows, high)]:
+            if each.high >= low:
+                yield Area(each.row, *sorted(start.way * (place - start.place) for place in each[1:]))
+
+    def _all_areas(self, lane: Lane) -> Tuple[Sequence[Placed], Sequence[int], int]:
+        """The rows of a lane from place to place, in their order, where each begins, and the greatest length."""
+        found = []
+        for row in self._plan.places(*lane):
             ends = self.place(row.track, row.km), self.place(row.track, row.km if row.km_to is None else row.km_to)
             if ends[0] is not None and ends[1] is not None:
-                yield Area(row, *sorted(start.way * (place - start.place) for place in ends if place is not None))
+                found.append(Placed(row, ends[0], ends[1]))
+        found.sort(key=lambda each: each.low)
+        return found, [each.low for each in found], max((each.high - each.low for each in found), default=0)
 
     def is_lost(self, kind: str, start: Start, place: int, tolerance: int) -> bool:
         """Whether a row without one place may be at this place: a jump repeats its kilometre."""

@@ -31,6 +31,9 @@ The columns are `kind, km, km_to, track, way, value, name`, in any order:
   - `condition`: a track condition of packet 68, `type=0` with the number of M_TRACKCOND.
   - `reversing`: an area in which trains may reverse, `v=30 distance=500` with V_REVERSE and D_REVERSE of packet 139.
   - `repositioning`: at a group that sends packet 16, `section=700` with L_SECTION in metres.
+  - `crossing`: a level crossing of packet 88, `id=5 v=40 protected=no stop=yes` with NID_LX, V_LX in km/h, Q_LXSTATUS
+    and Q_STOPLX. `traction`: a change of the traction system by packet 39, `voltage=2 country=352` with the numbers of
+    M_VOLTAGE and NID_CTRACTION. Both are compared only if `layouts` names the packet.
   - `stop_in_sr`: at a group that sends packet 137, `stop=yes` for Q_SRSTOP 0, or `stop=no`.
   - `shunting`: at a group that sends packet 132 or 49, `stop=no balises=352/17,352/18`. `stop=yes` is Q_ASPECT 0, and
     the balises are those that trains may pass, in the order of packet 49, or `none`.

@@ -6,6 +6,7 @@ from typing import Callable, Dict, Mapping
 
 from balisekit.errors import TableError
 from balisekit.tables.plan_values import (
+    GREATEST_COUNTRY,
     INFINITE,
     INFINITE_WORD,
     NO_END,
@@ -21,14 +22,14 @@ from balisekit.tables.plan_values import (
     speed_word,
 )
 
-GREATEST_RESTRICTION, GREATEST_CONDITION = 254, 15
+GREATEST_RESTRICTION, GREATEST_CONDITION, GREATEST_CROSSING, GREATEST_VOLTAGE = 254, 15, 255, 15
 """NID_TSR 255 says that a restriction cannot be revoked."""
 Reader = Callable[[str], Term]
 
 
 def _number(greatest: int, what: str) -> Callable[[str], int]:
     def read(text: str) -> int:
-        if not re.fullmatch("[0-9]{1,3}", text) or int(text) > greatest:
+        if not re.fullmatch("[0-9]{1,4}", text) or int(text) > greatest:
             raise TableError(f"{text[:40] or 'nothing'} is no {what}: write a number of at most {greatest}")
         return int(text)
 
@@ -81,15 +82,21 @@ KEYS: Mapping[str, Dict[str, Reader]] = {
     "condition": {"type": _number(GREATEST_CONDITION, "M_TRACKCOND")},
     "reversing": {"v": speed, "distance": mode_length},
     "repositioning": {"section": length},
+    "crossing": {"id": _number(GREATEST_CROSSING, "NID_LX"), "v": speed, "protected": _yes_or_no, "stop": _yes_or_no},
+    "traction": {
+        "voltage": _number(GREATEST_VOLTAGE, "M_VOLTAGE"),
+        "country": _number(GREATEST_COUNTRY, "NID_CTRACTION"),
+    },
     "stop_in_sr": {"stop": _yes_or_no},
     "shunting": {"stop": _yes_or_no, "balises": _identities},
 }
 """The kinds, their keys, and how the value of each is read."""
 EXAMPLES = {"tsr": "v=40 id=12 front=no", "condition": "type=0", "reversing": "v=30 distance=500"}
+EXAMPLES.update(crossing="id=5 v=40 protected=no stop=yes", traction="voltage=2 country=352")
 EXAMPLES.update(repositioning="section=700", stop_in_sr="stop=yes", shunting="stop=no balises=352/17,352/18")
-WITH_LENGTH = ("tsr", "condition", "reversing")
+WITH_LENGTH = ("tsr", "condition", "reversing", "crossing")
 """The kinds that hold from one kilometre to another one."""
-ENDING = ("tsr", "reversing")
+ENDING = ("tsr", "reversing", "crossing")
 """Those of them that always have a length."""
 LENGTH_KEYS = ("distance", "section")
 

@@ -15,7 +15,7 @@ RULES = rules_of(__name__, __path__)
 OF_PLACES = Rules("X1 to X3, X5, X6 and X10", "X1 to X3, X5, X6 and X10")
 """What needs the kilometre of a group, and its direction. X4 needs them for rows with a way, and X7 needs none."""
 NO_TRACK = "no track, though other groups have one, so X1 to X3, X5, X6 and X10 compare it with no row that has a track"
-IN_PLAN = frozenset({12, 15, 16, 21, 27, 41, 42, 46, 49, 65, 66, 68, 131, 132, 137, 138, 139})
+IN_PLAN = frozenset({12, 15, 16, 21, 27, 39, 41, 42, 46, 49, 65, 66, 68, 88, 131, 132, 137, 138, 139})
 """The packets that are compared with a plan."""
 
 

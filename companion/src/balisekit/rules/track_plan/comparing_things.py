@@ -7,17 +7,18 @@ from typing import Dict, Iterator, List, Sequence, Set, Tuple
 from balisekit.design.tracks import Area, Start
 from balisekit.rules.meaning.along import unread_of
 from balisekit.rules.rule import Options, Remark
-from balisekit.rules.telegrams import allowance
 from balisekit.rules.track_plan.borders import NOT_DECODED
 from balisekit.rules.track_plan.placed import BEHIND_POINT, BEYOND, NO_PLACE, SAYS_NOTHING, Counts, PlacedPlan, Saying
 from balisekit.rules.track_plan.placed import cells_of, plan_words
 from balisekit.rules.track_plan.things import FIELDS, NUMBERS, REVOCATION
-from balisekit.rules.track_plan.things import Thing, is_decoded, meant, places_differ, things_of
+from balisekit.rules.track_plan.things import Thing, fields_of, meant, places_differ, things_of
+from balisekit.tables.chainage import rounding
 from balisekit.tables.names import clean
 from balisekit.tables.plan import WAY_WORDS, PlanRow
 from balisekit.tables.plan_things import LENGTH_KEYS, words
 
 WORDS = {"tsr": "temporary restriction", "condition": "track condition", "reversing": "reversing area"}
+WORDS.update(crossing="level crossing", traction="change of the traction system")
 WORDS.update(repositioning="repositioning section", stop_in_sr="order for trains in SR", shunting="order for shunting")
 
 
@@ -39,7 +40,7 @@ class Comparison:
         self._lacking.update((kind, clean(track)) for track, _ in unread_of(decoded))
         infill = (clean(one.track) for one in decoded.passages for each in one.infill if each.number in NUMBERS[kind])
         self._lacking.update((kind, track) for track in infill)
-        for saying in (each for each in self._placed.sayings(*NUMBERS[kind]) if not is_decoded(each)):
+        for saying in (each for each in self._placed.sayings(*NUMBERS[kind]) if not fields_of(each.packet)):
             self.counts[NOT_DECODED] += 1
             self._lacking.add((kind, clean(saying.passage.track)))
         for thing in things_of(self._placed, kind):
@@ -58,7 +59,7 @@ class Comparison:
         if why or start is None:
             self._lacking.add((thing.kind, clean(passage.track)))
             return
-        rows = meant(thing, list(self._placed.tracks.areas(thing.kind, start)))
+        rows = meant(thing, self._placed.tracks, start)
         self._named.update(area.row.number for area in rows)
         texts = list(self._differing(thing, start, rows[0])) if rows else []
         compared = self._placed.confirmed.contradict if texts else self._placed.confirmed.confirm
@@ -70,9 +71,9 @@ class Comparison:
 
     def _differing(self, thing: Thing, start: Start, area: Area) -> Iterator[str]:
         """What differs in place and values, in words."""
-        tolerance, packet = self._placed.decoded.tolerance, thing.saying.packet
-        stated, more = self._options.tolerance, thing.lengths
-        allowed = tolerance(stated, allowance(packet, more)), tolerance(stated, allowance(packet, more + 1))
+        tolerance, stated = self._placed.decoded.tolerance, self._options.tolerance
+        begin, end = (tolerance(stated, rounding(thing.unit, thing.lengths + more)) for more in (0, 1))
+        allowed = begin, end
         pairs = (("begins", thing.begin, area.begin), ("ends", thing.end, area.end))
         for (verb, own, wanted), differs in zip(pairs, places_differ(thing, area, allowed)):
             if differs:
@@ -112,10 +113,10 @@ class Comparison:
         """Compares the packets 66 with the numbers of the rows."""
         for saying in self._placed.sayings(REVOCATION):
             start, number = self._placed.start(saying.passage), dict(saying.packet.form).get("nid_tsr")
-            areas = list(self._placed.tracks.areas("tsr", start)) if start else []
-            why = NO_PLACE if start is None else "" if areas else SAYS_NOTHING
+            rows = self._placed.plan.places("tsr", start.track, start.way) if start else ()
+            why = NO_PLACE if start is None else "" if rows else SAYS_NOTHING
             self.counts[why] += 1
-            if not why and number not in [area.row.terms.get("id", number) for area in areas]:
+            if not why and number not in [row.terms.get("id", number) for row in rows]:
                 sentence = f"NID_TSR is {number}, and no row tsr of the plan has this number"
-                facts = [cells_of(area.row) for area in areas]
+                facts = list(map(cells_of, rows))
                 self.found.setdefault(("revocation", sentence), ([], facts))[0].append(saying)

@@ -10,7 +10,6 @@ from collections import Counter
 from decimal import Decimal
 from typing import Callable, Dict, Iterator, List, NamedTuple, Sequence, Tuple
 
-from balisekit.design.tracks import Tracks
 from balisekit.rules.line import Line
 from balisekit.rules.passages import GroupData, Passage
 from balisekit.rules.rule import Options
@@ -22,12 +21,15 @@ from balisekit.rules.track_plan.placed import NO_PLACE, PlacedPlan, Saying
 from balisekit.rules.track_plan.stretches import KINDS, compare
 from balisekit.rules.track_plan.x3_ends import gives_way
 from balisekit.rules.track_plan.aspect_terms import AUTHORITY, all_terms_of, terms_of
+from balisekit.tables.chainage import rounding
 from balisekit.tables.plan import BORDERS, Plan, PlanRow, aspect_name
 from balisekit.tables.plan_things import ENDING
 from balisekit.tables.plan_values import GroupTerms, Terms, Value
 
 NEAR = 500
 """In decimetres: a signal has the name of a group that is as near."""
+NEARBY = 10_000
+"""In decimetres: rows are looked for in parts of a track that are as long."""
 RADIO = ("2", "3")
 """The levels with an RBC."""
 
@@ -63,7 +65,12 @@ def implied(line: Line, options: Options, in_full: bool = False) -> Made:
         *borders,
         *points,
         *_groups(placed),
-        *(row for kind in things.KINDS for row in _things(line, options, kind, points, skipped)),
+        *(
+            row
+            for kind in things.KINDS
+            if things.is_compared(kind, options)
+            for row in _things(line, options, kind, points, skipped)
+        ),
     ]
     numbered = [row._replace(number=number) for number, row in enumerate(rows, 2)]
     return Made(numbered, [f"{count} packets are not in the plan: {why}" for why, count in skipped.items()])
@@ -187,23 +194,24 @@ def _things(
 ) -> Iterator[PlanRow]:
     """The restrictions, conditions or areas of a kind, each once. What a group within one says of it adds no row."""
     placed = PlacedPlan(line, options._replace(plan=Plan(rows=tuple(points))))
-    rows: List[PlanRow] = []
+    known: Dict[Tuple[Lane, str, int], List[Tuple[int, int]]] = {}
+    """The ends of the rows, by lane, value and kilometre of their last place."""
     for thing in things.things_of(placed, kind):
         start = placed.start(thing.saying.passage)
         has_length = thing.end > thing.begin
         if start is None or kind in ENDING and not has_length:
             skipped[NO_PLACE] += 1
             continue
-        known = list(Tracks(Plan(rows=tuple(rows)), options.jumps).areas(kind, start))
-        allowed = placed.decoded.tolerance(options.tolerance, allowance(thing.saying.packet, thing.lengths + 1))
-        same = (each for each in known if each.row.terms == thing.terms)
-        if any(not any(things.places_differ(thing, each, (allowed, allowed))) for each in same):
+        lane, value, begin, end = (start.track, start.way), str(thing.terms), start.at(thing.begin), start.at(thing.end)
+        allowed = placed.decoded.tolerance(options.tolerance, rounding(thing.unit, thing.lengths + 1))
+        near = [each for step in (-1, 0, 1) for each in known.get((lane, value, end // NEARBY + step), ())]
+        others = (max(start.way * (first - start.place), 0) for first, last in near if abs(last - end) <= allowed)
+        if any(abs(thing.begin - first) <= allowed for first in others):
             continue
-        if not placed.is_behind_point(thing.saying.passage, start.at(thing.end)) and thing.terms:
-            low, high = sorted((start.at(thing.begin), start.at(thing.end)))
-            row = _row(placed, kind, (start.track, start.way), low, thing.terms)
-            rows.append(row._replace(km_to=placed.kilometre(start.track, high) if has_length else None))
-    yield from rows
+        if not placed.is_behind_point(thing.saying.passage, end) and thing.terms:
+            known.setdefault((lane, value, end // NEARBY), []).append((begin, end))
+            row = _row(placed, kind, lane, min(begin, end), thing.terms)
+            yield row._replace(km_to=placed.kilometre(start.track, max(begin, end)) if has_length else None)
 
 
 def _borders(placed: PlacedPlan, options: Options, skipped: Dict[str, int]) -> Iterator[PlanRow]:

@@ -8,6 +8,8 @@ packet states. It rests on SUBSET-026, 7.4.2 and 7.5.1.
 - Rows `condition`: the rule compares the beginning, the end and M_TRACKCOND of each condition of packet 68.
 - Rows `reversing`: the rule compares the area of packet 138 with V_REVERSE and D_REVERSE of packet 139.
 - Rows `repositioning`: the rule compares L_SECTION of packet 16. The row is at the group that sends it.
+- Rows `crossing` and `traction`: the rule compares the place and the values of packets 88 and 39. It compares them only
+  if `layouts` of `balisekit.toml` names the packet, because their layouts are not certain.
 - Rows `stop_in_sr` and `shunting`: the rule compares Q_SRSTOP of packet 137, Q_ASPECT of packet 132, and the balises of
   packet 49. The row is at the group that sends them. A group with "stop" and "go" by its aspects has two rows.
 - A kind of which the plan has no row is not compared. What the row does not state is not compared either.
@@ -40,7 +42,9 @@ from balisekit.rules.line import Line
 from balisekit.rules.rule import Options, Result, Rule, Urgency
 from balisekit.rules.track_plan.comparing_things import Comparison
 from balisekit.rules.track_plan.placed import PlacedPlan, remark
-from balisekit.rules.track_plan.things import KINDS
+from balisekit.rules.track_plan.things import KINDS, is_compared
+
+NOT_CERTAIN = "a layout that the project has not compared with its print"
 
 
 def find(line: Line, options: Options) -> Result:
@@ -48,7 +52,9 @@ def find(line: Line, options: Options) -> Result:
     placed = PlacedPlan(line, options)
     comparison = Comparison(placed, options)
     kinds = [kind for kind in KINDS if placed.plan.of_kind(kind)]
-    found = [each for kind in kinds for each in comparison.of_kind(kind)]
+    found = [each for kind in kinds if is_compared(kind, options) for each in comparison.of_kind(kind)]
+    for kind in (kind for kind in kinds if not is_compared(kind, options)):
+        comparison.counts[NOT_CERTAIN] += len(placed.plan.of_kind(kind))
     if "tsr" in kinds:
         comparison.revocations()
     for (_, sentence), (sayings, facts) in comparison.found.items():
