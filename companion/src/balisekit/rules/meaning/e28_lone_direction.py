@@ -16,9 +16,9 @@ direction. The rule rests on SUBSET-026, 3.6.3 and 7.3.
   program compare most of these packets.
 - Two groups are not reported if one of them has a packet 41 or 131 for the rare direction, because trains might leave
   the area there. The packets of both groups are counted as not compared.
-- If the numbers of groups do not allow a remark, the packets for the rare direction are counted as not compared. They
-  are not counted if three or more groups have packets for the rare direction, and one of them has no others, because
-  trains then run in both directions.
+- If the numbers of groups do not allow a remark, the packets for the rare direction are counted as not compared.
+- They are not counted if three or more groups have packets for the rare direction, and one of them has no others. Then
+  trains run in both directions.
 
 Why it matters. At worst the train gets wrong information, or lacks it. The trains of this track do not get the packet,
 such as an order to open a session or to revoke a restriction.
