@@ -2,8 +2,8 @@
 # Makes a release of the program that was proved and built here.
 #
 #     scripts/release.sh raise        writes the next version number into VERSION and each other file that has it
-#     scripts/release.sh store        stores the program, the library for C and their ABOUT in dist/x86_64-linux, and
-#                                     adds a line to dist/RELEASES
+#     scripts/release.sh store        stores the program, that for tables, the library for C and their ABOUT in
+#                                     dist/x86_64-linux, and adds a line to dist/RELEASES
 #     scripts/release.sh              writes the release into out/release: tarball and its checksum, wheel, packages of
 #                                     Debian, SPDX, the logs of the gate, of edits and plants, a README and SHA256SUMS
 #     scripts/release.sh --try DIR    the same into an empty DIR, with the program that ./balisecheck would run, without
@@ -71,6 +71,12 @@ sum_of() {
 is_right() {
     grep -qsx "sources $(dist/sources)" "$1/ABOUT" || fail "the program in $1 was built from other sources: $2"
     grep -qx "program $(sum_of "$1/balisecheck")" "$1/ABOUT" || fail "the program in $1 is damaged: $2"
+}
+
+# has_table: fails if the program for tables in out/ is damaged or missing.
+has_table() {
+    grep -qsx "balisecheck_table $(sum_of out/balisecheck_table 2>/dev/null)" out/ABOUT ||
+        fail 'the program for tables in out is damaged or missing: scripts/build'
 }
 
 # has_library: fails if the library in out/ is damaged or, by LIBRARY, was built from other sources.
@@ -146,16 +152,17 @@ store() {
     local line other sum before=$room/before
     is_committed crates.txt HANDLES crates
     is_right out 'scripts/build'
+    has_table
     has_library
     grep -qsx "sources $(dist/sources)" out/TARGETS && are_targets out/TARGETS ||
         fail 'the files for other systems in out are damaged, missing or of other sources: scripts/targets'
     has_a_number
     mkdir -p "$dist"
     cp -a dist "$before"
-    install -m 755 out/balisecheck "$dist/balisecheck"
+    install -m 755 out/balisecheck out/balisecheck_table "$dist"
     rm -f "$dist"/libbalisecheck.*
     install -m 644 out/libbalisecheck.a out/libbalisecheck.so.0 "$dist"
-    { papers out/balisecheck; sed 1d out/LIBRARY; sed 1d out/TARGETS; } >"$dist/ABOUT"
+    { papers out/balisecheck; grep '^balisecheck_table ' out/ABOUT; sed 1d out/LIBRARY; sed 1d out/TARGETS; } >"$dist/ABOUT"
     line="$version $(said commit "$dist") $(said sources "$dist")"
     grep -q "^$line $(said program "$dist") " dist/RELEASES || echo "$line $(said program "$dist") $(date -u +%F)" >>dist/RELEASES
     for other in aarch64-linux/balisecheck browser/balisecheck.html x86_64-windows/balisecheck.exe; do
@@ -176,6 +183,7 @@ tree() {
     git ls-files -z -- "${handed[@]}" | tar -c --null --files-from=- --transform='s,^\(scripts\|man\)/,,' | tar -x -C "$1"
     install -m 755 "$2" "$1/balisecheck"
     install -m 644 "$3" "$1/$dist/ABOUT"
+    ! grep -q '^balisecheck_table ' "$3" || install -m 755 "$dist/balisecheck_table" "$1"
     # The library for C, and what is installed with it, have the places that they have in the repository.
     if grep -q '^library ' "$3"; then
         install -m 644 "$dist"/libbalisecheck.* "$1/$dist"
@@ -254,7 +262,7 @@ try() {
     papers "$program" >"$room/ABOUT"
     if cmp -s "$program" "$dist/balisecheck"; then
         sed -i "s/^kit .*/kit $(said kit "$dist")/" "$room/ABOUT"
-        sed -n '/^archive \|^library /p' "$dist/ABOUT" >>"$room/ABOUT"
+        sed -n '/^balisecheck_table \|^archive \|^library /p' "$dist/ABOUT" >>"$room/ABOUT"
         [ ! -e "out/targets/$page" ] || built=$(sum_of "out/targets/$page")
         sed "s,^\($page\) .*,\1 $built," "$dist/ABOUT" >"$room/listed"
         ! are_targets "$room/listed" || targets_of "$room/listed" >>"$room/ABOUT"

@@ -38,7 +38,7 @@ def a_kept_tree(tmp_path_factory):
     write(room / "tools/readelf", READELF)
     write(room / "tools/rt", "#!/bin/sh\necho a kit\n")
     said = sh(made(room / "a tree"), "git init -q; save; built one; scripts/release.sh store; save")
-    assert "the stored program: 15 passed, 0 failed\nstored: commit dist" in said
+    assert "the stored program: 17 passed, 0 failed\nstored: commit dist" in said
     return room
 
 
@@ -117,8 +117,9 @@ VERSIONED = ("ABOUT", "../../VERSION", "../../man/balisecheck.1", "../../CHANGEL
     (f"sed -i s/1[.]2[.]9/9.9.9/ ../RELEASES {' '.join(VERSIONED)}", "the version is that of"),
     ("sed -i '/ [-0-9]*$/d' ../RELEASES", "the last line of dist/RELEASES"),
     ("sed -i '2p; 2s/ [^ ]* 2/ 0 2/' ../RELEASES", "no number there is of two programs"),
-    *((f"echo >>{name}", "program and library are undamaged") for name in ("balisecheck", "libbalisecheck.a")),
-    ("chmod -x balisecheck", "the stored program can be run"), ("sed -i s/2.34/2.17/ ABOUT", "it needs this C library"),
+    *((f"echo >>{name}", "programs and library are undamaged")
+      for name in ("balisecheck", "balisecheck_table", "libbalisecheck.a")),
+    ("chmod -x balisecheck", "the stored programs can be run"), ("sed -i s/2.34/2.17/ ABOUT", "it needs this C library"),
     ("echo GLIBC_2.36 >>libbalisecheck.so.0", "the stored library needs no more"),
     ("sed -i 's/^commit .*/commit 0123/' ABOUT", "the commit of its sources is in this history"),
     ("echo >>../../crates/etcs_low/src/lib.rt", "the stored program is of these sources"),

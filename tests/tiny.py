@@ -31,6 +31,8 @@ SHELL = r"""
     answers() { program $1 "while read -r line; do echo $2 \$line; done"; }
     built() {
         program out "echo balisecheck $(cat VERSION) >&2 # $1 GLIBC_2.34"
+        cp out/balisecheck out/balisecheck_table
+        about out "balisecheck_table $(sum out/balisecheck_table)"
         echo $1 >out/libbalisecheck.a
         echo $1 GLIBC_2.4 GLIBC_2.34 >out/libbalisecheck.so.0
         printf '%s\n' "sources $(dist/sources)" "archive $(sum out/libbalisecheck.a)" \
