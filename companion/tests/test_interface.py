@@ -258,7 +258,7 @@ def test_a_table_keeps_its_file_of_settings(program: Program, tmp_path: Path) ->
     settings = tmp_path / "project.toml"
     settings.write_text(f"[check]\nplan = '{PLAN / 'plan.csv'}'\n", "utf-8")
     table = balisekit.read_table(PLAN / "level-border.csv", columns=settings)
-    assert len(balisekit.check(table, program=program).of("X")) == 9
+    assert len(balisekit.check(table, program=program).of("X")) == 11
 
 
 def test_a_table_keeps_its_headings(program: Program, tmp_path: Path) -> None:

@@ -34,7 +34,7 @@ from balisekit.rules.line import Line as LineOfTable
 from balisekit.rules.rule import Options, Remark, Result
 from balisekit.rules.track_plan import implied_profiles
 from balisekit.rules.track_plan.implied import implied
-from balisekit.rules.track_plan.x5_borders import UNSURE
+from balisekit.rules.track_plan.unnamed_borders import UNSURE
 from balisekit.tables import messages as messages_file, plan, plan_things, reader
 
 Change = Callable[[List[Row]], Any]

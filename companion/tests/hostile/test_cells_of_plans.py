@@ -117,13 +117,13 @@ def test_a_row_for_both_ways_that_one_way_states(program: Program, tmp_path: Pat
 
 
 def test_a_group_without_a_track(run: Run, table: Write) -> None:
-    """X1 to X3, X5 and X6 compare it with no row that has a track, and a note says so."""
+    """X1 to X3, X5, X6 and X10 compare it with no row that has a track, and a note says so."""
     with open(EXAMPLE, encoding="utf-8", newline="") as file:
         rows = [{**row, "track": "" if row["group"] == "Signal 3" else "1"} for row in csv.DictReader(file)]
     lines = [",".join(rows[0]), *(",".join(row.values()) for row in rows)]
     plan = table("kind,km,track,way,value", "speed,10.000,1,rising,160", name="plan.csv")
     _, out, _ = run("check", table(*lines), "--plan", plan)
-    words = "so X1 to X3, X5 and X6 compare it with no row that has a track"
+    words = "so X1 to X3, X5, X6 and X10 compare it with no row that has a track"
     assert [line for line in out if words in line] == [
-        f"note: Signal 3: no track, although other groups have one, {words}"
+        f"note: Signal 3: no track, though other groups have one, {words}"
     ]

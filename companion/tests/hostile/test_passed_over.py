@@ -132,11 +132,11 @@ def test_a_kilometre_in_a_jump(run: Run, table: Write) -> None:
 
 
 PLACED = [
-    ("km", {"Signal 2": ""}, ["Signal 2: no kilometre, so the plan has no place of the group"]),
+    ("km", {"Signal 2": ""}, ["Signal 2: no kilometre, so the design has no place of the group"]),
     (
         "track",
         {f"Signal {number}": "Up" for number in range(3, 99)},
-        ["Signal 1, Signal 2: no track, although other groups have one: its rows of the plan have none either"],
+        ["Signal 1, Signal 2: no track, although other groups have one: its rows of the design have none either"],
     ),
 ]
 
@@ -156,10 +156,10 @@ def test_groups_that_a_plan_does_not_place_are_named(
 def test_a_single_balise_without_direction_is_named_by_plan(run: Run, table: Write) -> None:
     """Its packets are not in the plan. So are those of each group of a table without kilometres, which has one note."""
     text = (TOP / "examples/links/direction-not-known.csv").read_text("utf-8").replace("rising", "").splitlines()
-    why = "direction along the kilometres not known, so the plan has no place ahead of the group"
+    why = "direction along the kilometres not known, so the design has no place ahead of the group"
     assert any(line.startswith(f"note: D: {why}") for line in run("plan", table(*text))[2])
     without = [",".join(cell for place, cell in enumerate(line.split(",")) if place != 2) for line in text]
-    assert "note: no row has a kilometre: the plan has only aspects" in run("plan", table(*without))[2]
+    assert "note: no row has a kilometre: the design has only aspects" in run("plan", table(*without))[2]
 
 
 OTHER_NAMES: Dict[str, Callable[[Dict[str, str]], str]] = {

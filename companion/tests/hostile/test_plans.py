@@ -13,20 +13,23 @@ from balisekit.tables import plan
 
 Write = Callable[..., Path]
 HEADING = "kind,km,km_to,track,way,value,name"
-KINDS = "the kinds are speed, gradient, signal, aspect, level, rbc, group, jump, point"
-COLUMNS = "kind, km, km_to, track, way, value, name"
+KINDS = (
+    "the kinds are speed, gradient, signal, aspect, level, rbc, group, tsr, condition, reversing, repositioning, "
+    "crossing, traction, stop_in_sr, shunting, radio, jump, point"
+)
+COLUMNS = "kind, km, km_to, track, way, value, name, who"
 SPEED = "is no speed: write km/h in steps of 5, at most 600"
 GRADIENT = "is no gradient: write whole per mille with sign, such as -5"
 LEVELS = "is no list of levels: write 0, 1, 2, 3 or NTC:7, in the order of priority"
 OVERLAPS = "column km: it overlaps row 2, which holds from km"
 LENGTH = "is no length: write metres, such as 1400 or 1400.5"
 ASPECT = (
-    "is none of v=.., end=.., overlap=.., release=.., danger=.., loa=.., loa_time=.., end_time=.., end_start=.., "
-    "overlap_time=.., overlap_start=.."
+    "is none of authority=.., v=.., end=.., overlap=.., release=.., danger=.., loa=.., loa_time=.., end_time=.., "
+    "end_start=.., overlap_time=.., overlap_start=.., sections=.., to=.., mode=.., stop=.., links=.."
 )
 
 ROWS: Dict[str, str] = {
-    "train,12,,,,,": f"row 2, column kind: train is no kind: {KINDS}",
+    "train,12,,,,,": 'row 2, column kind: train is no kind: did you mean "traction"?',
     ",12,,,,120,": f"row 2, column kind: nothing is no kind: {KINDS}",
     "sped,12,,,,120,": 'row 2, column kind: sped is no kind: did you mean "speed"?',
     "speed,,,,,120,": "row 2, column km: empty: a speed needs a kilometre",
@@ -101,7 +104,7 @@ ROWS: Dict[str, str] = {
     "level,12,,,,2,\nlevel,12.000,,,falling,1,": "row 3, column km: row 2 has a border at this kilometre already",
     "aspect,,,,,v=120,A/red\naspect,,,,falling,v=100,A/red": "row 3, column name: the aspect A/red is in row 2 already",
     "speed,,,,,120,\ntrain,12,,,,,": "row 2, column km: empty: a speed needs a kilometre|"
-    f"row 3, column kind: train is no kind: {KINDS}",
+    'row 3, column kind: train is no kind: did you mean "traction"?',
 }
 
 

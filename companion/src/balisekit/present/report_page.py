@@ -64,17 +64,19 @@ def report_page(
             found=parts,
             design=matrix(outcome, paths_from(outcome.checked)),
             explained=list(explained_rules(outcome)),
-            with_items=with_items,
             **_overview(noted),
             parts=iter(partial(groups.read, PIECE), ""),
             aspect=aspect,
             full=full,
             **_of_tracks(names),
             tracks=((clean(name), map(itemgetter(1), some)) for name, some in groupby(drawn, itemgetter(0))),
-            legend=LEGEND,
-            premises=premises(),
-            links_rule=DISTANCE,
+            **_of_every_page(),
         )
+
+
+def _of_every_page() -> Dict[str, object]:
+    """What the template needs for any table."""
+    return {"with_items": with_items, "legend": LEGEND, "premises": premises(), "links_rule": DISTANCE}
 
 
 def _of_tracks(names: Sequence[str]) -> Dict[str, object]:

@@ -41,7 +41,7 @@ How to accept it. Name the trains or the route for which the packet differs from
 from __future__ import annotations
 
 from collections import Counter
-from typing import Dict, Iterator, List, Optional, Sequence, Set, Tuple
+from typing import Dict, List, Optional, Sequence, Set, Tuple
 
 from balisekit.design.tracks import Spot, nearest
 from balisekit.rules.line import Line
@@ -51,7 +51,6 @@ from balisekit.rules.track_plan.placed import (
     BEHIND_POINT,
     NO_PLACE,
     SAYS_NOTHING,
-    BEYOND,
     PlacedPlan,
     cells_of,
     plan_words,
@@ -59,13 +58,11 @@ from balisekit.rules.track_plan.placed import (
 )
 from balisekit.rules.rule import Options, Remark, Result, Rule, Urgency
 from balisekit.rules.telegrams import allowance
+from balisekit.rules.track_plan.unnamed_borders import KIND_WORDS, unnamed_borders
 from balisekit.tables.names import kilometre
-from balisekit.tables.plan import BORDERS, PlanRow
+from balisekit.tables.plan import BORDERS
 from balisekit.tables.plan_values import metres
 
-UNSURE = "borders of the plan that a packet without a known place may name"
-"""Why borders of the plan are not looked for."""
-WORDS = {"level": "level", "rbc": "RBC"}
 KIND = {41: "level", 46: "level", 131: "rbc", 42: "rbc"}
 
 
@@ -77,15 +74,10 @@ def find(line: Line, options: Options) -> Result:
     unplaced = {(kind, track) for track, _ in unread_of(line.decoded) for kind in BORDERS}
     infill = [(each.number, passage.track) for passage in line.decoded.passages for each in passage.infill]
     unplaced.update((kind, track) for number, track in infill for kind in [KIND.get(number)] if kind)
-    for saying in placed.sayings(*NUMBERS):
-        border = border_of(saying)
-        if border is None:
-            continue
+    for border in (each for saying in placed.sayings(*NUMBERS) for each in [border_of(saying)] if each):
+        saying = border.saying
         tolerance = line.decoded.tolerance(options.tolerance, allowance(saying.packet))
         spots, place, why = _wanted(placed, border, tolerance)
-        start = placed.start(saying.passage)
-        if border.has_place and not why and start and placed.tracks.is_lost(border.kind, start, place, tolerance):
-            spots, why = (), NO_PLACE
         named.update(spot.row.number for spot in spots)
         counts[why] += 1
         unplaced.update([(border.kind, saying.passage.track)] if why in (NO_PLACE, BEHIND_POINT) else [])
@@ -98,16 +90,7 @@ def find(line: Line, options: Options) -> Result:
         elsewhere = None if _is_there(border, place, spots[0], tolerance) else place
         found.setdefault((spots[0].row.number, elsewhere, border.text), []).append((border, place, spots))
     remarks = [_remark(placed, each) for each in found.values()]
-    rows = [row for kind in BORDERS for row in placed.plan.of_kind(kind) if row.number not in named]
-    left = [row for row in rows if (row.kind, row.track) not in unplaced]
-    unnamed = {row.number: list(_unnamed(placed, row)) for row in left}
-    remarked = [each for some in unnamed.values() for each in some]
-    unsure = len(rows) - len(left) + (len(remarked) if counts[NOT_DECODED] else 0)
-    if not counts[NOT_DECODED]:
-        placed.confirmed.uncovered.update(number for number, some in unnamed.items() if some)
-        remarks += remarked
-    beyond = sum(1 for row in left if _is_beyond(placed, row))
-    counts.update({why: count for why, count in ((BEYOND, beyond), (UNSURE, unsure)) if count})
+    remarks += unnamed_borders(placed, named, unplaced, counts)
     return placed.result(BORDERS, remarks, counts)
 
 
@@ -126,7 +109,8 @@ def _wanted(placed: PlacedPlan, border: Border, tolerance: int) -> Tuple[Sequenc
     if placed.is_behind_point(passage, place):
         return (), place, BEHIND_POINT
     if border.has_place:
-        return [nearest(spots, place)], place, ""
+        is_lost = placed.tracks.is_lost(border.kind, start, place, tolerance)
+        return ((), place, NO_PLACE) if is_lost else ([nearest(spots, place)], place, "")
     ahead = [spot for spot in spots if way * spot.place > way * place]
     passed = [spot for spot in spots if way * spot.place <= way * place]
     asked = (ahead, passed) if border.kind == "rbc" else (passed,)
@@ -142,7 +126,7 @@ def _is_there(border: Border, place: int, spot: Spot, tolerance: int) -> bool:
 
 def _remark(placed: PlacedPlan, said: Sequence[Tuple[Border, int, Sequence[Spot]]]) -> Remark:
     border, place, (spot, *_) = said[0]
-    passage, word = border.saying.passage, WORDS[border.kind]
+    passage, word = border.saying.passage, KIND_WORDS[border.kind]
     here, there, apart = placed.km(passage, place), kilometre(spot.row.km), abs(place - spot.place)
     begins, at = ("begins at", f"at km {there}") if border.has_place else ("at", f"from km {there} on")
     row = plan_words(spot.row, with_km=False)
@@ -152,23 +136,6 @@ def _remark(placed: PlacedPlan, said: Sequence[Tuple[Border, int, Sequence[Spot]
     values.update({**numbers(border.kind, border.text), **numbers(border.kind, spot.row.text_value, "plan_")})
     facts = {cells_of(each.row) for _, _, spots in said for each in spots}
     return remark("X5", [each.saying for each, _, _ in said], sentence, values, sorted(facts))
-
-
-def _is_beyond(placed: PlacedPlan, row: PlanRow) -> bool:
-    """Whether a border is before the first or after the last group of its track."""
-    place = placed.place(row.track, row.km)
-    known = placed.decoded.nearest(row.track, place) if place is not None else None
-    return place is not None and known is not None and not placed.decoded.is_inside(row.track, place)
-
-
-def _unnamed(placed: PlacedPlan, row: PlanRow) -> Iterator[Remark]:
-    """A border of the plan that no packet names, if it is within the table."""
-    place = placed.place(row.track, row.km)
-    group = placed.decoded.nearest(row.track, place) if place is not None else None
-    if place is not None and group is not None and placed.decoded.is_inside(row.track, place):
-        packets = "41 or 46" if row.kind == "level" else "131 or 42"
-        sentence = f"no packet {packets} names the {WORDS[row.kind]} border of {plan_words(row)}"
-        yield Remark("X5", group.location(), sentence, values={"plan_km": row.km}, facts=[cells_of(row)])
 
 
 RULE = Rule("X5", "borders", __doc__ or "", find, Urgency.WRONG_INFORMATION)

@@ -34,7 +34,7 @@ from __future__ import annotations
 
 from collections import Counter
 from decimal import Decimal
-from typing import Dict, Iterator, List, Tuple
+from typing import Dict, Iterator, List, Mapping, Tuple
 
 from balisekit.design.groups import DesignedGroup, DesignedGroups, link
 from balisekit.etcs.geometry import NOMINAL
@@ -47,7 +47,7 @@ from balisekit.rules.track_plan.headers import differing_headers
 from balisekit.rules.track_plan.placed import SAYS_NOTHING, PlacedPlan, cells_of, plan_words
 from balisekit.rules.track_plan.sites import differing_places, lacks_kilometres
 from balisekit.tables.names import clean
-from balisekit.tables.plan import WAY_WORDS, rows_named
+from balisekit.tables.plan import WAY_WORDS, PlanRow, rows_named
 from balisekit.tables.plan_values import metres
 
 REFUSED = "no telegram is read"
@@ -125,13 +125,7 @@ def _of_link(
     differ: List[str] = []
     values: Dict[str, Decimal] = {}
     is_far, is_turned = abs(own.total - wanted.distance) > allowed, own.nominal != wanted.is_nominal
-    others = {"d_link": is_far, "q_linkorientation": is_turned, "nid_c": False, "nid_bg": False}
-    paths = {
-        is_other: [("links", own.number, key) for key in others if others[key] == is_other]
-        for is_other in (True, False)
-    }
-    placed.confirmed.confirm([target.row], packet, paths[False])
-    placed.confirmed.contradict([target.row] if paths[True] else [], packet, paths[True])
+    _confirm_link(placed, target.row, packet, own, {"d_link": is_far, "q_linkorientation": is_turned})
     if is_far:
         differ.append(f"D_LINK adds up to {metres(own.total)} m, and to {metres(wanted.distance)} m")
         values = {"d_link_m": Decimal(own.total) / 10, "plan_d_link_m": Decimal(wanted.distance) / 10}
@@ -142,6 +136,17 @@ def _of_link(
         sentence = f"{clean(target.row.name)}: {' by the plan; '.join(differ)} by {rows}"
         facts = [cells_of(sender.row), cells_of(target.row)]
         yield Remark("X8", passage.at(packet, own.number), sentence, values=values, facts=facts)
+
+
+def _confirm_link(placed: PlacedPlan, row: PlanRow, packet: Packet, own: Link, differs: Mapping[str, bool]) -> None:
+    """Takes down which variables of a link the row of its group confirms, and which it contradicts."""
+    keys = [*differs, "nid_c", "nid_bg"]
+    same, other = (
+        [("links", own.number, key) for key in keys if differs.get(key, False) == is_other]
+        for is_other in (False, True)
+    )
+    placed.confirmed.confirm([row], packet, same)
+    placed.confirmed.contradict([row] if other else [], packet, other)
 
 
 RULE = Rule("X8", "statements about groups", __doc__ or "", find, Urgency.WRONG_PLACE)
