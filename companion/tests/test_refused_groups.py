@@ -108,8 +108,8 @@ def linked_before(rows: List[Row]) -> None:
 
 
 def linked_once(rows: List[Row]) -> None:
-    """Only signal 1 has a packet 5, and only yellow at signal 5 a V_MAIN above 0."""
-    rows[:] = [row for row in rows if row.aspect in (FIXED, RED) or (row.group, row.aspect) == ("Signal 5", YELLOW)]
+    """Only signal 1 has a packet 5, and only yellow at signal 2 a V_MAIN above 0."""
+    rows[:] = [row for row in rows if row.aspect in (FIXED, RED) or (row.group, row.aspect) == ("Signal 2", YELLOW)]
     for row in rows:
         keeps = row.group == "Signal 1"
         row.form["packets"] = [each for each in row.form["packets"] if keeps or each["nid_packet"] != 5]

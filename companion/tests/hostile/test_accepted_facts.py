@@ -184,7 +184,7 @@ def test_cells_of_the_plan(run: Run, tmp_path: Path) -> None:
     file = signed(run, line, *words)
     entries = answer(run, line, *words)["entries"]
     named = {int(number) for each in entries for number in re.findall(r"row (\d+) of the plan", each["sentence"])}
-    assert len(named) == 8
+    assert len(named) == 10
     # Without its own row a group has one more remark of X9, beside that on an aspect.
     lacking = {each["group"] for each in entries if each["rule"] == "X9"}
     named |= {at for at, row in enumerate(rows, 2) if row["kind"] == "group" and row["name"] in lacking}

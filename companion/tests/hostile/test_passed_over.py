@@ -128,7 +128,8 @@ def test_a_kilometre_in_a_jump(run: Run, table: Write) -> None:
     why = "a kilometre that a jump leaves out or repeats"
     assert f"note: Signal 3: {why}, so E12 to E19 and E22 compare no place of the group" in out
     assert [(each["family"], each["group"]) for each in answer["passed_over"]] == [("L", "Signal 3"), ("E", "Signal 3")]
-    assert f"not compared by E12: 2 of 12 ends of authority ({why}: 2)" in out
+    beyond = "beyond the last group that gives an authority"
+    assert f"not compared by E12: 5 of 12 ends of authority ({why}: 2, {beyond}: 3)" in out
 
 
 PLACED = [

@@ -17,7 +17,8 @@ KINDS = (
     "the kinds are speed, gradient, signal, aspect, level, rbc, group, tsr, condition, reversing, repositioning, "
     "crossing, traction, stop_in_sr, shunting, radio, jump, point"
 )
-COLUMNS = "kind, km, km_to, track, way, value, name, who"
+OF_PLAN = "kind, km, km_to, track, way, value, name"
+COLUMNS = f"{OF_PLAN}, who"
 SPEED = "is no speed: write km/h in steps of 5, at most 600"
 GRADIENT = "is no gradient: write whole per mille with sign, such as -5"
 LEVELS = "is no list of levels: write 0, 1, 2, 3 or NTC:7, in the order of priority"
@@ -123,8 +124,8 @@ def test_rows(table: Write, rows: str) -> None:
 
 
 FILES: List[Tuple[bytes, str]] = [
-    (b"", f"row 1: no column kind: the columns of a track plan are {COLUMNS}"),
-    (b"km,value\n12,120\n", f"row 1: no column kind: the columns of a track plan are {COLUMNS}"),
+    (b"", f"row 1: no column kind: the columns of a track plan are {OF_PLAN}"),
+    (b"km,value\n12,120\n", f"row 1: no column kind: the columns of a track plan are {OF_PLAN}"),
     (b"kind,km,speed\nspeed,12,120\n", f"row 1: there is no column speed: the columns are {COLUMNS}"),
     (b"kind,km,valeu\nspeed,12,120\n", 'row 1: there is no column valeu: did you mean "value"?'),
     (b"kind,km,km,value\nspeed,12,12,120\n", "row 1: columns 2 and 3 have one heading, km"),
