@@ -1,6 +1,7 @@
 """How much of a table its design confirms: in one line, and for other tools."""
 from __future__ import annotations
 
+from math import floor
 from typing import Any, Dict, Iterator, List, NamedTuple, Optional, Sequence, Tuple
 
 from balisekit.present.opening import Shown
@@ -39,9 +40,8 @@ def too_little(outcome: Outcome) -> List[str]:
         return []
     if outcome.coverage is None:
         return [f"no design confirms anything, and {outcome.least:g} % is the least"]
-    return [
-        f"the design confirms {outcome.coverage.share:.1f} % of the variables, and {outcome.least:g} % is the least"
-    ]
+    share = floor(outcome.coverage.share * 10) / 10
+    return [f"the design confirms {share:.1f} % of the variables, and {outcome.least:g} % is the least"]
 
 
 class MatrixCell(NamedTuple):

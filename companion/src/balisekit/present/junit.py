@@ -16,6 +16,7 @@ from typing import Dict, Iterable, Iterator, List, Mapping, NamedTuple, Sequence
 from balisekit.present import NOT_PROVED
 from balisekit.present.accepted_text import accepted_words
 from balisekit.present.account_text import not_judged_lines
+from balisekit.present.design_text import too_little
 from balisekit.present.links_text import empty_rules
 from balisekit.present.opening import Shown, paths_from
 from balisekit.present.outcome_text import AnswerLine, Kind, item_words, lines_but
@@ -115,6 +116,7 @@ def _cases(outcome: Outcome, part: Part) -> Iterator[Case]:
         yield from _not_read(checked)
         yield from _bad_messages(checked)
         yield from _at_fault(outcome.judged, paths_from(checked)) if outcome.judged else ()
+        yield from (Case("design", "confirmed", "error", why) for why in too_little(outcome))
 
 
 def _passed_over(part: Part) -> Mapping[object, str]:

@@ -56,7 +56,7 @@ from balisekit.io import inputs
 from balisekit.io.csv_writing import plain
 from balisekit.tables import csv as csv_file, decimal_commas, plan_things, plan_values as values
 from balisekit.tables.cells import GREATEST_NAME, Sheet, is_error, kind_and_text
-from balisekit.tables.headings import Headings, alike, compared, look_at_cells
+from balisekit.tables.headings import KILOMETRE, Headings, alike, compared, look_at_cells
 from balisekit.tables.names import clean, kilometre, rows_words
 from balisekit.tables.own_headings import DESIGN
 from balisekit.tables.plan_values import GroupTerms, Terms, Value
@@ -276,7 +276,7 @@ def rows_of(
 
     `kind` is that of rows whose column `kind` is empty, and `before` is added to their numbers.
     """
-    place, places = _head(sheet, headings)
+    place, places = _head(sheet, headings, kind)
     sheet.look_at_calculated(place + 1, len(sheet.rows[place]), places)
     is_made = any(cell.strip().startswith(MADE[:MARK]) for row in sheet.rows[:place] for cell in row)
     rows = _rows(sheet, place, places, kind)
@@ -309,17 +309,19 @@ def _value_text(row: PlanRow) -> str:
     return "" if row.value is None else str(row.value)
 
 
-def _head(sheet: Sheet, headings: Headings) -> Tuple[int, Dict[str, int]]:
+def _head(sheet: Sheet, headings: Headings, of_kind: str = "") -> Tuple[int, Dict[str, int]]:
     """The row of the headings, and where each column is. A column that is not known is refused: it may be mistyped.
 
-    So is a row of the plan above the headings, which would be passed over.
+    So is a row of the plan above the headings, which would be passed over: it has the word of a kind, or, in the sheet
+    of a kind, a kilometre and something else.
     """
     place = headings.row_of(sheet.rows)
     if place is None:
         raise TableError(f"no column kind: the columns of a track plan are {', '.join(COLUMNS)}", row=1)
     for number, row in enumerate(sheet.rows[:place], 1):
         filled = [cell.strip().lower() for cell in row if cell.strip()]
-        if len(filled) > 1 and not READERS.keys().isdisjoint(filled):
+        is_row = any(map(KILOMETRE.fullmatch, filled)) if of_kind else not READERS.keys().isdisjoint(filled)
+        if len(filled) > 1 and is_row:
             raise TableError("it is above the headings: put one row with headings above all others", row=number)
     _, places = head_of(sheet, headings)
     for at, name in enumerate(compared(sheet.rows[place])):
@@ -446,6 +448,11 @@ def _clashes(rows: Sequence[PlanRow]) -> Iterator[TableError]:
                     named.setdefault(fault.row or 0, fault)
                 far = row if (row.km_to or row.km) >= (far.km_to or far.km) else far
     first: Dict[Tuple[str, str, int], PlanRow] = {}
+    for row in (row for row in rows if row.kind == "radio" and "rbc" in row.terms):
+        earlier = first.setdefault((row.kind, str(row.terms["rbc"]), 0), row)
+        if earlier is not row:
+            why = f"the RBC {row.terms['rbc']} is in {_earlier(earlier, row)} already"
+            named.setdefault(row.number, TableError(why, row.number, "value"))
     for row in (row for row in rows if row.kind in NAMED_KINDS):
         for way in (row.way,) if row.way and row.kind == "aspect" else (1, -1):
             earlier = first.setdefault((row.kind, row.name, way), row)

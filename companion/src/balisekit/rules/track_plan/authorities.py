@@ -13,7 +13,6 @@ from balisekit.tables.plan import PlanRow
 VARIABLES: Mapping[str, Sequence[Path]] = {
     "v": [("v_main",)],
     "overlap": [("overlap", "d_ol")],
-    "release": [("overlap", "v_releaseol"), ("danger_point", "v_releasedp")],
     "danger": [("danger_point", "d_dp")],
     "loa": [("end_speed",)],
     "loa_time": [("end_timeout",)],
@@ -30,7 +29,8 @@ def confirm_authority(
 ) -> None:
     """Takes down which variables of a packet 12 a row confirms, and which it contradicts."""
     packet = saying.packet
-    variables = {**VARIABLES, "end": lengths_of(packet), "sections": lengths_of(packet)}
+    release = ("overlap", "v_releaseol") if packet.form.get("overlap") else ("danger_point", "v_releasedp")
+    variables = {**VARIABLES, "release": [release], "end": lengths_of(packet), "sections": lengths_of(packet)}
     same = [key for key in stated if key not in differ]
     placed.confirmed.confirm([row], packet, [path for key in same for path in variables[key]])
     placed.confirmed.contradict([row] if differ else [], packet, [path for key in differ for path in variables[key]])

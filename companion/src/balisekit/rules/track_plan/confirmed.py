@@ -7,7 +7,7 @@ from __future__ import annotations
 from collections import defaultdict
 from dataclasses import dataclass, field
 from functools import lru_cache
-from typing import Any, DefaultDict, Dict, List, Mapping, NamedTuple, Sequence, Set, Tuple
+from typing import Any, DefaultDict, Dict, Iterable, List, Mapping, NamedTuple, Sequence, Set, Tuple
 
 from balisekit.rules.telegrams import Packet
 from balisekit.tables.plan import PlanRow
@@ -143,6 +143,11 @@ class Confirmed:
         rows[row.number].add(number)
         place = number, HEADER
         bits[place] = bits.get(place, 0) | HEADER_BITS[(key,)]
+
+    def tell(self, row: PlanRow, numbers: Iterable[int], is_same: bool) -> None:
+        """Telegrams meet a row of the design in what is no variable of one packet, or contradict it."""
+        if not (is_same and row.is_unconfirmed):
+            (self.met if is_same else self.contradicted).setdefault(row.number, set()).update(numbers)
 
     def pass_over(self, packet: Packet, why: str) -> None:
         """Something of a packet is not compared."""

@@ -154,7 +154,8 @@ def ends_of(placed: PlacedPlan) -> Stating:
             end, why = end_of(placed, saying)
             place, limit = placed.at(passage, saying.packet.authority.end), placed.known_to(passage)
             if end:
-                said.named.add(end.signal.row.number)
+                spots = placed.tracks.spots("signal", end.start.track, end.start.way)
+                said.named.update(spot.row.number for spot in spots if spot.place == end.signal.place)
             elif why == BEHIND_POINT and place is not None and limit is not None and start:
                 said.leaves(start.way, limit, place + start.way * NEAR)
             elif start is None:

@@ -82,7 +82,7 @@ def find(line: Line, options: Options) -> Result:
             if row.number not in matched and not _needs_none(row):
                 placed.confirmed.uncovered.add(row.number)
                 found.append(_lacking(site, row))
-            found += of_other_packets(site, row, int(options.tolerance * 10), counts)
+            found += of_other_packets(placed, site, row, int(options.tolerance * 10), counts)
         elif site and row.number not in matched:
             counts[REFUSED] += 1
     return placed.result(["aspect"], found, +counts, elsewhere(placed, sites))
@@ -110,6 +110,7 @@ def _compare(placed: PlacedPlan, saying: Saying, row: PlanRow, options: Options,
         differing, why = other_signal(placed, saying, str(row.terms["to"]), options)
         counts.update({why: counts.get(why, 0) + 1} if why else {})
         texts += [each for each, _ in differing]
+        placed.confirmed.tell(row, [saying.packet.row.number] if saying.packet.row and not why else [], not differing)
         values.update(pair for _, some in differing for pair in some.items())
     if texts:
         sentence = f"{' by the plan; '.join(texts)} by {plan_words(row, with_km=False)}"

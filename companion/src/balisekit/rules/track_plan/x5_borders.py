@@ -78,14 +78,16 @@ def find(line: Line, options: Options) -> Result:
         saying = border.saying
         tolerance = line.decoded.tolerance(options.tolerance, allowance(saying.packet))
         spots, place, why = _wanted(placed, border, tolerance)
-        named.update(spot.row.number for spot in spots)
         counts[why] += 1
         unplaced.update([(border.kind, saying.passage.track)] if why in (NO_PLACE, BEHIND_POINT) else [])
         placed.confirmed.pass_over(saying.packet, why)
         same = [spot for spot in spots if _is_there(border, place, spot, tolerance) and spot.row.value == border.text]
+        named.update(spot.row.number for spot in same or spots)
+        if why:
+            continue
         tell = placed.confirmed.confirm if same else placed.confirmed.contradict
         tell([spot.row for spot in same or spots], saying.packet, list(variables_of(saying.packet)))
-        if why or same:
+        if same:
             continue
         elsewhere = None if _is_there(border, place, spots[0], tolerance) else place
         found.setdefault((spots[0].row.number, elsewhere, border.text), []).append((border, place, spots))

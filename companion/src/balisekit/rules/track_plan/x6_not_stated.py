@@ -65,7 +65,8 @@ def find(line: Line, options: Options) -> Result:
         left = {row.number for row in rows if _is_left(stating, row, counts)}
         placed.confirmed.uncovered |= left
         found += [_remark(placed, some) for some in _together(rows, left)]
-    return Result(found, counts.pop("", 0), counts, usual=frozenset({ONE_WAY}))
+    made = Result(found, counts.pop("", 0), counts, usual=frozenset({ONE_WAY}))
+    return made._replace(confirmed=placed.confirmed)
 
 
 def _is_left(stating: Stating, row: PlanRow, counts: Dict[str, int]) -> bool:

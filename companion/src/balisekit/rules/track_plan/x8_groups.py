@@ -81,6 +81,7 @@ def _of_group(
         ways = WAY_WORDS[data.group.rising or 0], WAY_WORDS[group.nominal]
         differ.append(f"the kilometres are {ways[0]} in nominal direction, and {ways[1]}")
     if differ:
+        placed.confirmed.tell(group.row, data.telegrams, False)
         sentence = f"{' by the plan; '.join(differ)} by {plan_words(group.row, with_km=False)}"
         yield Remark("X8", data.location(), sentence, facts=[cells_of(group.row)])
 
