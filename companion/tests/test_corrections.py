@@ -66,6 +66,12 @@ def exchanged(rows: List[Row]) -> None:
         one.form, other.form = other.form, one.form
 
 
+def exchanged_with_infill(rows: List[Row]) -> None:
+    """Yellow and green of signal 9 have the telegrams of each other, with their counters, and its infill is right."""
+    yellow, green = (row for row in rows if row.group == "Signal 9" and row.aspect in ("yellow", "green"))
+    yellow.form, green.form = green.form, yellow.form
+
+
 def answers(run: Run, path: Path, *words: str) -> Tuple[List[str], Dict[str, Any]]:
     """The lines of the answer, and its JSON."""
     output = path.with_suffix(".json")
@@ -190,16 +196,22 @@ def test_the_program_is_quoted(run: Run, program: Program, tmp_path: Path) -> No
 
 
 @pytest.mark.parametrize(
-    "change, rows, words",
+    "line, change, rows, words",
     [
-        (of_signal("Signal 9", nid_bg=77), [34, 35, 36, 37], "name group 9 of country or region 352"),
-        (exchanged, [35, 37], 'the aspects "red" and "green" of Signal 9 look exchanged'),
+        (Line(), of_signal("Signal 9", nid_bg=77), [34, 35, 36, 37], "name group 9 of country or region 352"),
+        (Line(), exchanged, [35, 37], 'the aspects "red" and "green" of Signal 9 look exchanged'),
+        (
+            Line(infill=(8,)),
+            exchanged_with_infill,
+            [40, 41],
+            'the aspects "yellow" and "green" of Signal 9 look exchanged',
+        ),
     ],
 )
 def test_identities_and_aspects(
-    run: Run, program: Program, tmp_path: Path, change: Change, rows: List[int], words: str
+    run: Run, program: Program, tmp_path: Path, line: Line, change: Change, rows: List[int], words: str
 ) -> None:
-    _, found = answers(run, written(program, tmp_path / "t.csv", Line(), change))
+    _, found = answers(run, written(program, tmp_path / "t.csv", line, change))
     first = found["entries"][0]
     assert words in first["sentence"] and first["rows"] == rows, first["sentence"]
     assert len([each for each in found["entries"] if not each["expected"]]) == 1

@@ -354,6 +354,7 @@ def test_alignment_keeps_both_lists() -> None:
         (b"\xff\xfe\0\0", "it is UTF-32"),
         (b"", "the table is empty: it needs a row with the headings group and telegram"),
     ],
+    ids=lambda value: repr(value)[:60],  # (a program is started with the name of the test in its environment)
 )
 def test_bad_input(run: Run, table: Write, content: bytes, why: str) -> None:
     bad = table(content=content or b"\n", name="bad")

@@ -1398,11 +1398,11 @@ def test_e29_of_far_places(found: Found) -> None:
     assert not found("E29", SHORT, all_of(usual[1], with_packet("Signal 1", FIXED, condition(7500))))
 
 
-def kinds(*own: int) -> Any:
-    """A packet 68 with conditions of these kinds at one place, which begins 1,000 m from its group."""
+def kinds(*own: int, place: int = 1000) -> Any:
+    """A packet 68 with conditions of these kinds at one place, in metres from its group."""
     first, *more = own
     rest = "".join(f"{0:015b}{300:015b}{kind:04b}" for kind in more)
-    return raw(68, f"010{1000:015b}{300:015b}{first:04b}{len(more):05b}{rest}")
+    return raw(68, f"010{place:015b}{300:015b}{first:04b}{len(more):05b}{rest}")
 
 
 def test_e29_of_two_kinds(found: Found) -> None:
@@ -1422,6 +1422,9 @@ def test_e29_of_two_kinds(found: Found) -> None:
     assert not found("E29", SHORT, all_of(*third, with_packet("Signal 4", FIXED, kinds(9, 3))))
     elsewhere = with_packet("Signal 4", FIXED, kinds(9)), with_packet("Signal 3", FIXED, condition(2506, 300, 3))
     assert not found("E29", SHORT, all_of(*elsewhere))
+    tunnel = with_packet("Signal 3", FIXED, kinds(0, 5, place=2500)), with_packet("Signal 4", FIXED, kinds(0, 6))
+    (one,) = found("E29", SHORT, all_of(*tunnel))
+    assert rows_named(one) == (14, 10) and "M_TRACKCOND is 6 (" in one.sentence
     slippery = (raw(71, f"01{at:015b}{300:015b}{bit}") for at, bit in ((2500, 0), (1000, 1)))
     (one,) = found(
         "E29", SHORT, all_of(*(with_packet(f"Signal {n}", FIXED, each) for n, each in enumerate(slippery, 3)))
@@ -1437,9 +1440,9 @@ def test_e29_counts_what_follows_a_packet_136(found: Found) -> None:
     assert (result.found, result.looked_at, result.not_looked_at) == ([], 1, {"behind a packet 136": 1})
 
 
-def position(group: int, metres: int, offset: int = 0) -> Any:
+def position(group: int, metres: int, offset: int = 0, direction: int = 1) -> Any:
     """A packet 79 with one position, from a group of the same country."""
-    return raw(79, f"010{group:014b}{offset:015b}1{metres:024b}{0:05b}")
+    return raw(79, f"010{group:014b}{offset:015b}1{metres:024b}{0:05b}", direction)
 
 
 @pytest.mark.parametrize(
@@ -1468,6 +1471,16 @@ def test_e14_of_positions(found: Found, metres: int, origin: int, count: int, wo
     own[3] = metres
     made = found("E14", SHORT, all_of(*(with_packet(f"Signal {n}", FIXED, position(n, at)) for n, at in own.items())))
     assert len(made) == bool(words) and all(words in each.sentence and rows_named(each) == (10, 2) for each in made)
+
+
+@pytest.mark.parametrize("offset", [0, 100])
+def test_e14_of_positions_for_both_directions(found: Found, offset: int) -> None:
+    """Each is one position, and one remark, although D_POSOFF leads to another place in each direction."""
+    own = {number: 8500 + 1500 * number for number in range(1, 6)}
+    own[3] = 14_000
+    packets = {n: position(n, at, offset * (n == 3), 2) for n, at in own.items()}
+    (one,) = found("E14", SHORT, all_of(*(with_packet(f"Signal {n}", FIXED, each) for n, each in packets.items())))
+    assert rows_named(one) == (10, 2) and "as 4 others do" in one.sentence
 
 
 def test_e14_of_positions_ahead(found: Found) -> None:

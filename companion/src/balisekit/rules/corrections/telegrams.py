@@ -9,7 +9,7 @@ from balisekit.rules.corrections.correction import Correction, Evidence, names_a
 from balisekit.tables.model import Aspect, Group
 from balisekit.tables.names import clean, quoted, rows_words
 
-OF_ASPECTS = ("E7", "E8", "E9", "E10", "F10", "F11", "F12", "F13", "F16")
+OF_ASPECTS = ("E7", "E8", "E9", "E10", "E15", "E24", "E25", "F10", "F11", "F12", "F13", "F16")
 """The rules that report telegrams of another aspect."""
 
 

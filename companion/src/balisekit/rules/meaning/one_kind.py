@@ -73,14 +73,18 @@ def _pairs(own: Sequence[Stated], agree: Agree) -> Iterator[FrozenSet[Kind]]:
 def _compare(
     decoded: Decoded, some: Sequence[Stated], both: AbstractSet[FrozenSet[Kind]], agree: Agree
 ) -> Iterator[Remark]:
-    """The conditions that are near each other. Of equally frequent kinds the one at the lowest kilometre counts."""
+    """The conditions that are near each other. Of equally frequent kinds the one at the lowest kilometre counts.
+
+    A kind that a message has beside theirs does not count: a tunnel may have several conditions.
+    """
     for each in some:
         here = [other for other in some if agree(each.condition, other.condition)]
         senders: Dict[Kind, Set[int]] = {}
         for other in here:
             senders.setdefault(other.kind, set()).add(other.sender)
-        usual = max(senders, key=lambda kind: len(senders[kind]))
-        if usual != each.kind and frozenset((each.kind, usual)) not in both:
+        rivals = [kind for kind in senders if frozenset((each.kind, kind)) not in both]
+        usual = max(rivals, key=lambda kind: len(senders[kind]))
+        if usual != each.kind:
             yield _remark(decoded, each, next(other for other in here if other.kind == usual))
 
 

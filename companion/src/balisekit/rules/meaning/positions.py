@@ -3,7 +3,7 @@ from __future__ import annotations
 
 from collections import Counter
 from decimal import Decimal
-from typing import Any, Dict, Iterator, List, NamedTuple, Sequence, Tuple
+from typing import Any, Dict, Iterable, Iterator, List, NamedTuple, Sequence, Tuple
 
 from balisekit.etcs.raw_packets import content_of
 from balisekit.etcs.variables import UNITS, metres
@@ -49,13 +49,21 @@ def unlike_positions(decoded: Decoded, options: Options) -> Tuple[Sequence[Remar
     counts = Counter(each.offset for each in some)
     usual = max(counts, key=lambda offset: _near(counts, offset))
     allowed = max(decoded.tolerance(options.tolerance, each.unit) for each in some) + 10
-    right = [each for each in some if abs(each.offset - usual) <= allowed]
-    wrong = [each for each in some if abs(each.offset - usual) > allowed]
+    right = _each_once(each for each in some if abs(each.offset - usual) <= allowed)
+    wrong = _each_once(each for each in some if abs(each.offset - usual) > allowed)
     is_shown = len({id(each.passage.group) for each in right}) >= GROUPS and len(right) >= OFTEN * len(wrong)
     if not is_shown or len({id(each.passage.group) for each in wrong}) > 1:
         return [], 0
     facts = [counted(sender(each.passage, each.packet) for each in right)]
     return [_remark(each, usual, right)._replace(facts=facts) for each in wrong], len(some)
+
+
+def _each_once(some: Iterable[Position]) -> List[Position]:
+    """The same. A packet for both directions states each position once."""
+    found: Dict[Tuple[int, int], Position] = {}
+    for each in some:
+        found.setdefault((id(each.packet), each.number), each)
+    return list(found.values())
 
 
 def _near(counts: "Counter[int]", offset: int) -> int:

@@ -8,7 +8,7 @@ from balisekit.design.tracks import Area, Start
 from balisekit.rules.meaning.along import unread_of
 from balisekit.rules.rule import Options, Remark
 from balisekit.rules.track_plan.borders import NOT_DECODED
-from balisekit.rules.track_plan.placed import BEHIND_POINT, BEYOND, NO_PLACE, SAYS_NOTHING, Counts, PlacedPlan, Saying
+from balisekit.rules.track_plan.placed import BEHIND_POINT, BEYOND, NO_PLACE, SAYS_NOTHING, PlacedPlan, Saying
 from balisekit.rules.track_plan.placed import cells_of, plan_words
 from balisekit.rules.track_plan.things import FIELDS, NUMBERS, REVOCATION
 from balisekit.rules.track_plan.things import Thing, fields_of, meant, places_differ, things_of
@@ -21,16 +21,20 @@ WORDS = {"tsr": "temporary restriction", "condition": "track condition", "revers
 WORDS.update(crossing="level crossing", traction="change of the traction system")
 WORDS.update(repositioning="repositioning section", stop_in_sr="order for trains in SR", shunting="order for shunting")
 
+ONE_WAY = "stated for one way only, although groups say something for both"
+
 
 class Comparison:
     """The comparison of all things of the kinds that a plan has."""
 
     def __init__(self, placed: PlacedPlan, options: Options) -> None:
         self._placed, self._options = placed, options
-        self.counts: Counts = Counter()
+        self.counts: Counter[str] = Counter()
         self.found: Dict[Tuple[str, str], Tuple[List[Saying], Sequence[str]]] = {}
         """The packets that differ alike, by their kind and the sentence, and on which rows it rests."""
         self._named: Set[int] = set()
+        self._ways: Dict[int, Set[int]] = {}
+        """By the numbers of rows: the ways for which packets state what they say."""
         self._lacking: Set[Tuple[str, str]] = set()
         """The kinds and tracks of which not all packets are compared."""
 
@@ -48,6 +52,13 @@ class Comparison:
         for row in self._placed.plan.of_kind(kind):
             if row.number not in self._named and (kind, row.track) not in self._lacking:
                 yield from self._unstated(row)
+            self.counts[ONE_WAY] += not row.way and self._lacks_a_way(row)
+
+    def _lacks_a_way(self, row: PlanRow) -> bool:
+        """Whether packets state a row for one way only, and groups of its track say something for the other way too."""
+        ways = self._ways.get(row.number, set())
+        others = (one for one in self._placed.decoded.passages if one.speaks and clean(one.track) == row.track)
+        return len(ways) == 1 and any(one.way is not None and one.way not in ways for one in others)
 
     def _look_at(self, thing: Thing) -> None:
         """Compares one thing with its row."""
@@ -61,6 +72,8 @@ class Comparison:
             return
         rows = meant(thing, self._placed.tracks, start)
         self._named.update(area.row.number for area in rows)
+        for area in rows:
+            self._ways.setdefault(area.row.number, set()).add(start.way)
         texts = list(self._differing(thing, start, rows[0])) if rows else []
         compared = self._placed.confirmed.contradict if texts else self._placed.confirmed.confirm
         compared([area.row for area in (rows[:1] if texts else rows)], thing.saying.packet, ())

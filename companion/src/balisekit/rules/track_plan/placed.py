@@ -111,13 +111,17 @@ class PlacedPlan:
         limit, start = self.known_to(passage), self.start(passage)
         return limit is not None and start is not None and (place - limit) * start.way > 0
 
-    def sayings(self, *numbers: int) -> Iterator[Saying]:
-        """What is said by packets with these NID_PACKET: each packet once in each direction."""
-        known: Set[Tuple[Packet, str]] = set()
+    def sayings(self, *numbers: int, beside: Sequence[int] = ()) -> Iterator[Saying]:
+        """What is said by packets with these NID_PACKET: each packet once in each direction.
+
+        It is there once more for each set of packets `beside` it, such as those of another aspect.
+        """
+        known: Set[Tuple[object, ...]] = set()
         for passage in self.decoded.passages:
             for packet in passage.of(*numbers):
-                if (packet, passage.direction) not in known:
-                    known.add((packet, passage.direction))
+                key = packet, passage.direction, *(passage.of(*beside) if beside else ())
+                if key not in known:
+                    known.add(key)
                     yield Saying(passage, packet)
 
     def result(

@@ -26,6 +26,8 @@ NUMBERS: Mapping[str, Sequence[int]] = {
     "shunting": (STOP_IN_SH, BALISES_FOR_SH),
 }
 """The packets that have the place of each kind."""
+BESIDE: Mapping[str, Sequence[int]] = {"reversing": (REVERSING,), "shunting": (STOP_IN_SH, BALISES_FOR_SH)}
+"""Packets of the same message that say more of it."""
 OWN_KEYS = {STOP_IN_SR: "q_srstop", STOP_IN_SH: "q_aspect", BALISES_FOR_SH: "groups"}
 """A key that the packet has if it fits its layout, of packets without Q_SCALE."""
 KINDS = tuple(KEYS)
@@ -72,8 +74,11 @@ class Thing(NamedTuple):
 
 
 def things_of(placed: PlacedPlan, kind: str) -> Iterator[Thing]:
-    """All things of a kind, each packet once in each direction. A packet that does not fit its layout has none."""
-    for saying in placed.sayings(*NUMBERS[kind]):
+    """All things of a kind, each packet once in each direction with what is beside it.
+
+    A packet that does not fit its layout has none.
+    """
+    for saying in placed.sayings(*NUMBERS[kind], beside=BESIDE.get(kind, ())):
         fields = fields_of(saying.packet)
         if fields:
             yield from READERS[kind](saying, fields, UNITS[fields.get("q_scale", 0)])

@@ -59,7 +59,7 @@ def find(line: Line, options: Options) -> Result:
         comparison.revocations()
     for (_, sentence), (sayings, facts) in comparison.found.items():
         found.append(remark("X10", sayings, sentence, {}, facts))
-    return placed.result(KINDS, found, comparison.counts)
+    return placed.result(KINDS, found, +comparison.counts)
 
 
 RULE = Rule("X10", "areas of the plan", __doc__ or "", find, Urgency.WRONG_INFORMATION)
