@@ -95,7 +95,7 @@ MISTAKES = [
     ("gradient", "Kilometre", "11.690", "Value", "18"),
     ("signal", "Name", "Signal 3", "Kilometre", "13.050"),
     ("aspect", "Name", "Signal 2/yellow", "Value", "overlap=250"),
-    ("aspect", "Name", "Signal 2/yellow", "Name", "Sig 2/yellow"),
+    ("aspect", "Name", "Signal 2/yellow", "Name", "Signal 22/yellow"),
     ("group", "Name", "Signal 4", "Value", "balises=3"),
 ]
 

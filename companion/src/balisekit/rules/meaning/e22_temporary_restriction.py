@@ -20,8 +20,8 @@ of its own. The rule rests on SUBSET-026, 3.11.5 and 7.4.2.
 - Nothing to revoke: a packet 66 is reported if no packet 65 for trains of the same way has its NID_TSR. A packet whose
   way is not known counts for both ways. This fault is only looked for if the table or the messages have a packet 65
   that can be revoked.
-- No end: if no packet 65 has the NID_TSR of a packet 66, and just one packet 65 for these trains has NID_TSR 255, that
-  packet 65 is reported instead of the packet 66.
+- No end: perhaps no packet 65 has the NID_TSR of a packet 66, and just one packet 65 for these trains has NID_TSR 255.
+  Then that packet 65 is reported instead of the packet 66.
 - The rule compares packets 65 on one track, for trains that run the same way, whichever groups send them. Each
   restriction must begin at most 20 km from the next one. A restriction is counted as not compared if all others with
   its NID_TSR are farther away.

@@ -13,7 +13,8 @@ SUBSET-026, 7.4.2 and 7.5.1.
 - A row with only `authority`, `mode`, `stop` or `links` needs no packet 12. With `authority=none` a packet 12 is
   reported.
 - `mode` is compared with the one mode of packet 80, `stop` with packets 137 and 132, and `links` with the groups that
-  packet 5 names. If the row states no `way`, one direction of the aspect must have them.
+  packet 5 names. If the row states no `way`, one direction of the aspect must have them. What a row excludes by `none`
+  or `links=0` must be in no direction.
 - `to` is compared with the place of the row `signal` that has this name, as X3 compares ends.
 - The kilometre and the track of the row are not compared. A note names the rows that have another track than the group,
   or a kilometre more than 50 m from it.
