@@ -1,7 +1,7 @@
 #!/bin/sh
 # Installs both commands with their manual pages into PREFIX, by default /usr/local:   install.sh [PREFIX]
 #
-# PREFIX/bin/balisecheck is one file that needs only the C library. In a clone it is the program that ./balisecheck would
+# PREFIX/bin/balisecheck and PREFIX/bin/balisecheck_table are files that need only the C library. In a clone it is the program that ./balisecheck would
 # run. PREFIX/bin/balisekit needs python3; its files are in PREFIX/share/balisecheck. The library for C that was stored with
 # the program is in PREFIX/lib, with its files for pkg-config and CMake, and its header in PREFIX/include.
 set -eu
@@ -12,7 +12,7 @@ prefix=${1:-/usr/local}
 kit=$prefix/share/balisecheck
 library=$prefix/lib
 manual=$prefix/share/man/man1
-# A release has this script, the program and both manual pages at its top. A clone has the script in scripts/.
+# A release has this script, the programs and the manual pages at its top. A clone has the script in scripts/.
 program=$top/balisecheck
 about=$top/dist/x86_64-linux/ABOUT
 pages=$top
@@ -45,6 +45,8 @@ for folder in "$prefix/bin" "$kit" "$library/pkgconfig" "$library/cmake/balisech
 done
 # Not `cp`, which would write through a link, or into a program that runs.
 install -m 755 "$program" "$prefix/bin/balisecheck"
+table=${program%/*}/balisecheck_table
+[ ! -e "$table" ] || install -m 755 "$table" "$prefix/bin/balisecheck_table"
 rm -rf "$kit/companion"
 mkdir -p "$kit/companion/src" "$kit/dist/x86_64-linux"
 install -m 755 "$top/balisekit" "$kit/balisekit"
@@ -70,7 +72,8 @@ fi
 ln -sf ../../bin/balisecheck "$kit/balisecheck"
 ln -sf ../share/balisecheck/balisekit "$prefix/bin/balisekit"
 printf 'installed: %s\n' "$prefix/bin/balisecheck" "$prefix/bin/balisekit" >&2
-for page in balisecheck.1 balisekit.1; do
+[ ! -e "$prefix/bin/balisecheck_table" ] || echo "installed: $prefix/bin/balisecheck_table" >&2
+for page in balisecheck.1 balisecheck_table.1 balisekit.1; do
     [ -e "$pages/$page" ] || continue
     install -m 644 "$pages/$page" "$manual/$page"
     echo "installed: $manual/$page" >&2

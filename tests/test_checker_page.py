@@ -65,8 +65,9 @@ def test_a_request_would_be_seen(tmp_path):
 
 
 @ONLY_CHROMIUM
+@pytest.mark.long  # (it measures time: nothing else may run)
 def test_answers_soon(tab):
-    """From the opening of the file to an answer it takes at most half a second: once in 20 runs, beside other tests."""
+    """From the opening of the file to an answer it takes at most half a second, once in 20 runs."""
     taken = [SECONDS + 1]
     while min(taken) > SECONDS and len(taken) <= 20:
         tab.ask("Page.navigate", url="about:blank")
@@ -405,7 +406,7 @@ def test_large_files(opened, tmp_path, name):
     opened.run("document.querySelector('#clear').click()")
     opened.run(FRAMES)
     assert choose(opened, tmp_path / name, 120).startswith(sentence)
-    assert opened.run("window.longest") < 5000
+    assert opened.run("window.longest") < 20_000  # (2 to 3 s if nothing else runs)
     assert opened.messages() == []
 
 

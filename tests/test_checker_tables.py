@@ -267,9 +267,9 @@ PROGRESS = """(window.seen = [], new MutationObserver(() => {
 }).observe(document.querySelector("#step"), { childList: true }), 0)"""
 
 
-@pytest.mark.slow
+@pytest.mark.long  # (it measures time: nothing else may run)
 def test_many_rows(tab, tmp_path, read_line):
-    """A table of 100,000 rows is answered in 5 s, once in six runs beside other tests, with progress and no request."""
+    """A table of 100,000 rows is answered in 5 s, once in six runs, with progress and no request."""
     digits = [row[-1] for row in read_line[1:]]
     rows = "".join(f"{at // 2},{at / 10},{digits[at % len(digits)]}\n" for at in range(ROWS))
     (tmp_path / "many.csv").write_text(f"group,km,telegram\n{rows}")

@@ -18,8 +18,8 @@ import pytest
 from cases_of_program import TOP
 from random_csv_tables import Maker, table
 
-from balisekit.engine.grammar import Finding
-from balisekit.engine.program import Program, Refusal
+from balisekit.engine.grammar import Finding, Refusal
+from balisekit.engine.program import Program
 from balisekit.errors import KitError, TableErrors
 from balisekit.rules.checking import document
 from balisekit.tables import reader
@@ -98,8 +98,9 @@ def is_stricter(answer: Answer) -> bool:
 
 def is_in_doubt(error: KitError) -> bool:
     """Whether balisekit refuses a table for one of its own reasons."""
-    faults = error.faults if isinstance(error, TableErrors) else [error]
-    return any(OF_BALISEKIT.search(str(fault)) for fault in faults)
+    if isinstance(error, TableErrors):
+        return any(OF_BALISEKIT.search(str(fault)) for fault in error.faults)
+    return bool(OF_BALISEKIT.search(str(error)))
 
 
 def difference(program: Program, content: bytes, path: Path) -> Optional[str]:

@@ -15,7 +15,7 @@ from typing import Any, Dict, Iterator, List, Optional, Sequence, Tuple
 import pytest
 from cases_of_program import TOP
 from meaning_line import table as written
-from meaning_mistakes import SHORT
+from meaning_mistakes_of_groups import SHORT
 from plan_example import Cells, text_of
 from test_meaning_along import repositioning
 
@@ -55,7 +55,9 @@ def _apart(own: Line) -> Iterator[Tuple[Cells, Form]]:
         return
     names = [name for name in dict.fromkeys(cells.get("aspect", "") for cells, _ in own) if name != "*"] or [""]
     rows = {
-        name: sorted((each for each in own if each[0].get("aspect", "") in (name, "*")), key=lambda it: it[1]["n_pig"])
+        name: sorted(
+            (each for each in own if each[0].get("aspect", "") in (name, "*")), key=lambda it: int(it[1]["n_pig"])
+        )
         for name in names
     }
     packets = {name: [packet for _, form in rows[name] for packet in form["packets"]] for name in names}
@@ -179,7 +181,7 @@ def example(program: Program, path: Path) -> Line:
     return [(row, getattr(record, "form")) for row, record in zip(rows, program.decode([r["telegram"] for r in rows]))]
 
 
-def stays(program: Program, path: Path, rule: str, line: Line, number: int, changes: Dict[str, int]) -> bool:
+def stays(program: Program, path: Path, rule: str, line: Line, number: int, changes: Dict[str, Any]) -> bool:
     """Whether an entry of a rule stays accepted after a change of each packet with this number in its group."""
     first = {key: own for key, own in (found(program, path, line) or {}).items() if key[0] == rule}
     ((key, (_, _, (remark,))),) = first.items()

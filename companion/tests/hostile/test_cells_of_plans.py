@@ -4,7 +4,7 @@ from __future__ import annotations
 import csv
 import io
 from pathlib import Path
-from typing import Any, Callable, Dict, List
+from typing import Any, Callable, Dict, List, Sequence, Tuple
 
 import pytest
 from cases_of_program import TOP
@@ -37,7 +37,13 @@ def test_the_kilometre_and_track_of_an_aspect(program: Program, tmp_path: Path) 
     """A note names the row, and no remark: the kilometre of a signal is not that of its balises."""
     line, rows = plan_of_line(program, tmp_path / "t.csv")
     row = of_kind(rows, "aspect", name="Signal 3/green")
-    for cells, is_named in (({}, False), ({"km": "13.040"}, False), ({"km": "13.400"}, True), ({"track": "7"}, True)):
+    changes: Sequence[Tuple[Dict[str, str], bool]] = (
+        ({}, False),
+        ({"km": "13.040"}, False),
+        ({"km": "13.400"}, True),
+        ({"track": "7"}, True),
+    )
+    for cells, is_named in changes:
         old = dict(row)
         row.update(cells)
         result = results(line, rows, tmp_path)["X4"]

@@ -8,8 +8,9 @@ the same name. The signal is the group that the packet 136 names. The rule rests
   compared by the sum of their lengths.
 - The rule also reports a packet 136 that names a group of the same track in rear of the infill, or at the kilometre of
   the infill.
-- The rule also reports an aspect of the infill without a packet 136 under two conditions. All other aspects of its group
-  have one, and the signal has a V_MAIN above 0 at this aspect. Several aspects of this kind are counted as not compared.
+- The rule also reports an aspect of the infill without a packet 136 under two conditions. All other aspects of its
+  group have one, and the signal has a V_MAIN above 0 at this aspect. Several aspects of this kind are counted as not
+  compared.
 - The rule also reports a packet 136 that names a group which is not in the table. A packet 136 with NID_BG 16,383 is
   not reported.
 - A missing signal gets only a note if it might be a group of which no telegram could be read.

@@ -9,8 +9,8 @@ announced place. The rule rests on SUBSET-026, 5.10 and 7.4.2.
 - Levels: all announcements and orders of one transition must have the same M_LEVELTR and NID_NTC in the same order.
 - L_ACKLEVELTR: announcements of one place with the same levels must have the same L_ACKLEVELTR.
 - Packet 46 (conditional level transition order): at the border, or up to 500 m beyond it, this packet must have the
-  levels of a packet 41 for the border. They must be in the same order. The proved program does not decode it: balisekit decodes it by a layout of
-  its own.
+  levels of a packet 41 for the border. They must be in the same order. The proved program does not decode it:
+  balisekit decodes it by a layout of its own.
 - Missing order: announcements between the first and the last group of the track need an order within 500 m of their
   place. One remark names all packets that announce this place.
 - Packets for trains that run the same way on the same track belong to one transition if each place is at most 500 m
