@@ -492,8 +492,8 @@ def _found(sheet: Any, recalculates: bool) -> Found:
         rows[number] = " ".join(others)
         count = possible_digits(rows[number])
         found.possible.update({number: count} if count else {})
-    numbers, below = list(rows), digits_in_rows([*rows.values()])
-    found.possible.update({numbers[at]: count for at, count in below.items()})
+    numbers, below, known = list(rows), digits_in_rows([*rows.values()]), {*found.telegrams}
+    found.possible.update({numbers[at]: count for at, count in below.items() if numbers[at] not in known})
     return found
 
 
