@@ -130,7 +130,7 @@ def test_200_tables_are_read_alike(program: Program, tmp_path: Path) -> None:
     assert not list(differences(program, tmp_path, 1, 200))
 
 
-@pytest.mark.slow
+@pytest.mark.long
 def test_20000_tables_are_read_alike(program: Program, tmp_path: Path) -> None:
     """The two readers agree on many more tables."""
     assert not list(differences(program, tmp_path, 2, 20_000))
@@ -159,7 +159,7 @@ def differences_of_changed(program: Program, folder: Path, seed: int, count: int
                 yield f"{told}\n{content!r}"
 
 
-@pytest.mark.slow
+@pytest.mark.long
 def test_each_cut_and_a_flip_of_each_byte_of_ten_tables(program: Program, tmp_path: Path) -> None:
     """The two readers agree on a table that was cut off, or in which a bit was changed."""
     assert not list(differences_of_changed(program, tmp_path, 3, 10))
